@@ -1,0 +1,3 @@
+-- Outcomes of calls.
+pub mod Outcome
+pub mod Answer

@@ -1,0 +1,346 @@
+-- A list of bytes reads as a cascade exactly if the cascade is valid and the bytes are its encoding.
+use Prim.Native.Nat.{ℕ, zero, suc, _+_, _≤_, _<_}
+use native.Mathlib.Decide.{ℕ-discrete}
+use native.Mathlib.Omega.{arith}
+use mathlib.Core.Path.{_≡_, refl, sym, ap, _∙_, subst}
+use mathlib.Core.Logic.{_↔_}
+use mathlib.Core.Bool.{Bool, true, false, _&&_}
+use mathlib.Core.List.{List, [], _∷_, _++_, reverse, append-nil, append-assoc, reverse-cons, reverse-reverse}
+use borrow.Author.Tests.{lt-ltb, le-leb, eq-eqb, ne-eqb, ltb-true, leb-true, eqb-true, eqb-false, ltb-false}
+use lib.Dec.{eqb, leb, ltb}
+use lib.ListN.{length, getD, length-append, length-reverse}
+use Rattle.limits.specs.Limits.{fewest-tags, most-tags, most-rules, longest-pattern}
+use Rattle.answers.specs.Outcome.{Outcome, result, refused, byte}
+use Rattle.words.specs.Word.{Below}
+use Rattle.words.proofs.Word.{below-append}
+use Rattle.cascades.specs.Rule.{Rule, Cascade, ValidRule, ValidRules}
+use Rattle.books.specs.Book.{Valid, encodePattern, encodeRule, encodeRules, encode}
+use Rattle.books.specs.Read.{Stage, opening, size, command, place, new-tag, pattern-tag, ended, Next, go, refuse, fault, closing, unless, nextTag, nextRule, commandStep, below, opened, longer, step, finish, readFrom, read}
+use Rattle.books.specs.Kept.{Kept, ruleAt, rulesDown}
+use Rattle.books.proofs.Kept.{down-length}
+
+-- ---- encodings are read
+
+-- reading on from the stage gives the cascade, wherever the bytes stand
+abbrev Accepts : Stage → List ℕ → Cascade → Type 0
+Accepts s bs c = (at : ℕ) → readFrom s at bs ≡ result c
+
+accepts-next : (s s' : Stage) (b : ℕ) (bs : List ℕ) (c : Cascade) → step s b ≡ go s' → Accepts s' bs c → Accepts s (b ∷ bs) c
+accepts-next s s' b bs c e f at = cc (e, f (suc at))
+
+fault-none : (l k : ℕ) (r : Rule) → ValidRule l k r → fault r ≡ 0
+fault-none l k r h =
+    let n : length (r .pattern) ≡ 0 → ⊥ = λ e. omega (arith, h .place-inside) in
+    cc (
+      ne-eqb (length (r .pattern)) 0 n,
+      lt-ltb (r .place) (length (r .pattern)) (h .place-inside),
+      ne-eqb (getD (r .pattern) (r .place) 0) (r .tag) (h .tag-new),
+    )
+
+abbrev with-pattern : Rule → List ℕ → Rule
+with-pattern r u = record { pattern = u; place = r .place; tag = r .tag }
+
+below-go : (k b : ℕ) (s : Stage) → b < k → below k b s ≡ go s
+below-go k b s h = cc (lt-ltb b k h)
+
+accepts-pattern : (k : ℕ) (r : Rule) (rs : List Rule) (u rest : List ℕ) (c : Cascade) → length (r .pattern) + length u ≤ longest-pattern → Below k u
+    → Accepts (command k (with-pattern r (r .pattern ++ u) ∷ rs)) rest c → Accepts (command k (r ∷ rs)) (encodePattern u ++ rest) c
+accepts-pattern k r rs [] rest c h b f = subst (λ (p : List ℕ). Accepts (command k (with-pattern r p ∷ rs)) rest c) (append-nil (r .pattern)) f
+accepts-pattern k r rs (a ∷ u) rest c h b f =
+    let n : length (r .pattern) < longest-pattern = omega arith in
+    let m : length (r .pattern ++ (a ∷ [])) + length u ≤ longest-pattern = omega (arith, length-append (r .pattern) (a ∷ [])) in
+    accepts-next (command k (r ∷ rs)) (pattern-tag k r rs) 0x22 (a ∷ (encodePattern u ++ rest)) c (cc (lt-ltb (length (r .pattern)) longest-pattern n))
+    (accepts-next (pattern-tag k r rs) (command k (longer r a ∷ rs)) a (encodePattern u ++ rest) c (below-go k a (command k (longer r a ∷ rs)) (b .0))
+    (accepts-pattern k (longer r a) rs u rest c m (b .1)
+    (subst (λ (p : List ℕ). Accepts (command k (with-pattern r p ∷ rs)) rest c) (sym (append-assoc (r .pattern) (a ∷ []) u)) f)))
+
+abbrev pub cascade : ℕ → List Rule → Cascade
+cascade k rs = record { tags = k; rules = rs }
+
+-- the commands from a place where the last rule may be closed
+accepts-rules : (k : ℕ) (rs more : List Rule) → closing rs ≡ 0 → length rs + length more ≤ most-rules → ValidRules longest-pattern k more
+    → Accepts (command k rs) (encodeRules more ++ (0x00 ∷ [])) (cascade k (reverse rs ++ more))
+accepts-rules k rs [] z h v = λ at. cc (z, append-nil (reverse rs))
+accepts-rules k rs (r ∷ more) z h v =
+    let c = cascade k (reverse rs ++ (r ∷ more)) in
+    let rest : List ℕ = encodeRules more ++ (0x00 ∷ []) in
+    let n : length rs < most-rules = omega arith in
+    let m : length (r ∷ rs) + length more ≤ most-rules = omega arith in
+    let e : cascade k (reverse (r ∷ rs) ++ more) ≡ c =
+    ap (cascade k) (ap (λ (x : List Rule). x ++ more) (reverse-cons r rs) ∙ append-assoc (reverse rs) (r ∷ []) more)
+    in
+    let rule : Accepts (command k (r ∷ rs)) rest c =
+    subst (Accepts (command k (r ∷ rs)) rest) e (accepts-rules k (r ∷ rs) more (fault-none longest-pattern k r (v .0)) m (v .1))
+    in
+    let pattern : Accepts (command k (opened (r .place) (r .tag) ∷ rs)) (encodePattern (r .pattern) ++ rest) c =
+    accepts-pattern k (opened (r .place) (r .tag)) rs (r .pattern) rest c (omega (arith, v .0 .short)) (v .0 .pattern-below) rule
+    in
+    let bytes : encodeRule r ++ encodeRules more ++ (0x00 ∷ []) ≡ encodeRule r ++ rest = append-assoc (encodeRule r) (encodeRules more) (0x00 ∷ []) in
+    subst (λ (bs : List ℕ). Accepts (command k rs) bs c) (sym bytes)
+    (accepts-next (command k rs) (place k rs) 0x21 (r .place ∷ r .tag ∷ (encodePattern (r .pattern) ++ rest)) c (cc (z, lt-ltb (length rs) most-rules n))
+    (accepts-next (place k rs) (new-tag k rs (r .place)) (r .place) (r .tag ∷ (encodePattern (r .pattern) ++ rest)) c refl
+    (accepts-next (new-tag k rs (r .place)) (command k (opened (r .place) (r .tag) ∷ rs)) (r .tag) (encodePattern (r .pattern) ++ rest) c
+    (below-go k (r .tag) (command k (opened (r .place) (r .tag) ∷ rs)) (v .0 .tag-below)) pattern)))
+
+pub reads-encoding : (c : Cascade) → Valid c → read (encode c) ≡ result c
+reads-encoding c v =
+    let k = c .tags in
+    let body : List ℕ = encodeRules (c .rules) ++ (0x00 ∷ []) in
+    accepts-next opening size 0x20 (k ∷ body) c refl
+    (accepts-next size (command k []) k body c
+    (cc (le-leb fewest-tags k (v .enough-tags), le-leb k most-tags (v .few-tags)))
+    (accepts-rules k [] (c .rules) refl (omega (arith, v .few-rules)) (v .rules-valid))) 0
+
+-- ---- what is read is an encoding
+
+-- the bytes of rules that are listed last first
+abbrev down : List Rule → List ℕ
+down [] = []
+down (r ∷ rs) = down rs ++ encodeRule r
+
+-- the bytes that lead to a stage
+abbrev behind : Stage → List ℕ
+behind opening = []
+behind size = 0x20 ∷ []
+behind (command k rs) = 0x20 ∷ k ∷ down rs
+behind (place k rs) = 0x20 ∷ k ∷ (down rs ++ (0x21 ∷ []))
+behind (new-tag k rs p) = 0x20 ∷ k ∷ (down rs ++ (0x21 ∷ p ∷ []))
+behind (pattern-tag k r rs) = 0x20 ∷ k ∷ (down (r ∷ rs) ++ (0x22 ∷ []))
+behind (ended k rs) = 0x20 ∷ k ∷ (down rs ++ (0x00 ∷ []))
+
+record Tags (k : ℕ) : Type 0 where
+  enough : fewest-tags ≤ k
+  few : k ≤ most-tags
+
+-- an open rule, whose pattern has at most l tags
+record Open (l k : ℕ) (r : Rule) : Type 0 where
+  short : length (r .pattern) ≤ l
+  pattern-below : Below k (r .pattern)
+  tag-below : r .tag < k
+
+abbrev OpenFirst : ℕ → List Rule → Type 0
+OpenFirst k [] = Unit {0}
+OpenFirst k (r ∷ rs) = Open longest-pattern k r × ValidRules longest-pattern k rs
+
+-- what the tests on the way to a stage have shown
+abbrev Shown : Stage → Type 0
+Shown opening = Unit {0}
+Shown size = Unit {0}
+Shown (command k rs) = Tags k × (length rs ≤ most-rules) × OpenFirst k rs
+Shown (place k rs) = Tags k × (length rs < most-rules) × ValidRules longest-pattern k rs
+Shown (new-tag k rs p) = Tags k × (length rs < most-rules) × ValidRules longest-pattern k rs
+Shown (pattern-tag k r rs) = Tags k × (length rs < most-rules) × Open longest-pattern k r × (length (r .pattern) < longest-pattern) × ValidRules longest-pattern k rs
+Shown (ended k rs) = Tags k × (length rs ≤ most-rules) × ValidRules longest-pattern k rs
+
+-- a byte that is taken keeps both
+abbrev Follows : Stage → ℕ → Next → Type 0
+Follows s b (go s') = Shown s' × (behind s' ≡ behind s ++ (b ∷ []))
+Follows s b (refuse n) = Unit {0}
+
+-- `fault` over the values of its tests
+abbrev faultBy : Bool → Bool → Bool → ℕ
+faultBy empty inside same =
+    elim empty [ true ↦ 3 | false ↦ elim inside [ false ↦ 5 | true ↦ elim same [ true ↦ 6 | false ↦ 0 ] ] ]
+
+no-fault-inside : (s t u : Bool) → faultBy s t u ≡ 0 → (t ≡ true) × (u ≡ false)
+no-fault-inside true t u z = absurd (omega arith)
+no-fault-inside false true true z = absurd (omega arith)
+no-fault-inside false true false z = (refl, refl)
+no-fault-inside false false u z = absurd (omega arith)
+
+no-fault : (k : ℕ) (r : Rule) → Open longest-pattern k r → fault r ≡ 0 → ValidRule longest-pattern k r
+no-fault k r o z =
+    let n = length (r .pattern) in
+    let a = getD (r .pattern) (r .place) 0 in
+    let h = no-fault-inside (eqb n 0) (ltb (r .place) n) (eqb a (r .tag)) z in
+    record {
+      short = o .short;
+      pattern-below = o .pattern-below;
+      place-inside = ltb-true (r .place) n (h .0);
+      tag-below = o .tag-below;
+      tag-new = eqb-false a (r .tag) (h .1);
+    }
+
+closed : (k : ℕ) (rs : List Rule) → OpenFirst k rs → closing rs ≡ 0 → ValidRules longest-pattern k rs
+closed k [] o z = tt
+closed k (r ∷ rs) o z = (no-fault k r (o .0) z, o .1)
+
+by-test : (P : Next → Type 0) (t : Bool) (x y : Next) → (t ≡ true → P x) → (t ≡ false → P y) → P (elim t [ true ↦ x | false ↦ y ])
+by-test P true x y f g = f refl
+by-test P false x y f g = g refl
+
+unless-fault : (P : Next → Type 0) (n : ℕ) (x : Next) → (n ≡ 0 → P x) → ((m : ℕ) → P (refuse m)) → P (unless n x)
+unless-fault P zero x f g = f refl
+unless-fault P (suc n) x f g = g (suc n)
+
+encodePattern-snoc : (u : List ℕ) (a : ℕ) → encodePattern (u ++ (a ∷ [])) ≡ encodePattern u ++ (0x22 ∷ a ∷ [])
+encodePattern-snoc [] a = refl
+encodePattern-snoc (b ∷ u) a = ap (λ (x : List ℕ). 0x22 ∷ b ∷ x) (encodePattern-snoc u a)
+
+longer-open : (k : ℕ) (r : Rule) (a : ℕ) → Open longest-pattern k r → length (r .pattern) < longest-pattern → a < k → Open longest-pattern k (longer r a)
+longer-open k r a o n h =
+    record {
+      short = omega (arith, length-append (r .pattern) (a ∷ []));
+      pattern-below = below-append k (r .pattern) (a ∷ []) (o .pattern-below) (h, tt);
+      tag-below = o .tag-below;
+    }
+
+-- after a tag of the pattern
+longer-bytes : (r : Rule) (rs : List Rule) (a : ℕ) → down (longer r a ∷ rs) ≡ down (r ∷ rs) ++ (0x22 ∷ []) ++ (a ∷ [])
+longer-bytes r rs a =
+    let e = ap (λ (x : List ℕ). down rs ++ (0x21 ∷ r .place ∷ r .tag ∷ x)) (encodePattern-snoc (r .pattern) a) in
+    e ∙ simp append-assoc
+
+module _ (k : ℕ) (rs : List Rule) (b : ℕ) (h : Shown (command k rs)) where
+  command-ends : eqb b 0x00 ≡ true → Follows (command k rs) b (unless (closing rs) (go (ended k rs)))
+  command-ends e =
+      unless-fault (Follows (command k rs) b) (closing rs) (go (ended k rs))
+      (λ z. ((h .0, h .1, closed k rs (h .2) z), ap (λ (x : ℕ). 0x20 ∷ k ∷ (down rs ++ (x ∷ []))) (sym (eqb-true b 0x00 e))))
+      (λ m. tt)
+
+  command-opens : eqb b 0x21 ≡ true → Follows (command k rs) b (unless (closing rs) (nextRule k rs))
+  command-opens e =
+      unless-fault (Follows (command k rs) b) (closing rs) (nextRule k rs)
+      (λ z. by-test (Follows (command k rs) b) (ltb (length rs) most-rules) (go (place k rs)) (refuse 7)
+      (λ t. (
+        (h .0, ltb-true (length rs) most-rules t, closed k rs (h .2) z),
+        ap (λ (x : ℕ). 0x20 ∷ k ∷ (down rs ++ (x ∷ []))) (sym (eqb-true b 0x21 e)),
+      ))
+      (λ t. tt))
+      (λ m. tt)
+
+command-tag : (k : ℕ) (rs : List Rule) (b : ℕ) → Shown (command k rs) → eqb b 0x22 ≡ true → Follows (command k rs) b (nextTag k rs)
+command-tag k [] b h e = tt
+command-tag k (r ∷ rs) b h e =
+    by-test (Follows (command k (r ∷ rs)) b) (ltb (length (r .pattern)) longest-pattern) (go (pattern-tag k r rs)) (refuse 3)
+    (λ t. (
+      (h .0, omega (arith, h .1), h .2 .0, ltb-true (length (r .pattern)) longest-pattern t, h .2 .1),
+      ap (λ (x : ℕ). 0x20 ∷ k ∷ (down (r ∷ rs) ++ (x ∷ []))) (sym (eqb-true b 0x22 e)),
+    ))
+    (λ t. tt)
+
+-- every byte that is taken is told, and shows what it was tested for
+step-follows : (s : Stage) (b : ℕ) → Shown s → Follows s b (step s b)
+step-follows opening b h =
+    by-test (Follows opening b) (eqb b 0x20) (go size) (refuse 1) (λ e. (tt, ap (λ (x : ℕ). x ∷ []) (sym (eqb-true b 0x20 e)))) (λ e. tt)
+step-follows size b h =
+    by-test (Follows size b) (leb fewest-tags b && leb b most-tags) (go (command b [])) (refuse 2)
+    (λ e. ((both (leb fewest-tags b) (leb b most-tags) refl refl e, omega arith, tt), refl))
+    (λ e. tt)
+  where
+    both : (s t : Bool) → leb fewest-tags b ≡ s → leb b most-tags ≡ t → (s && t) ≡ true → Tags b
+    both true true e f g = record { enough = leb-true fewest-tags b e; few = leb-true b most-tags f }
+    both true false e f g = let z : _≡_ {A = ℕ} 0 1 = cc in absurd (omega arith)
+    both false t e f g = let z : _≡_ {A = ℕ} 0 1 = cc in absurd (omega arith)
+step-follows (command k rs) b h =
+    let P = Follows (command k rs) b in
+    let tag : Next = elim (eqb b 0x22) [ true ↦ nextTag k rs | false ↦ refuse 1 ] in
+    let rule : Next = elim (eqb b 0x21) [ true ↦ unless (closing rs) (nextRule k rs) | false ↦ tag ] in
+    by-test P (eqb b 0x00) (unless (closing rs) (go (ended k rs))) rule (command-ends k rs b h)
+    (λ e. by-test P (eqb b 0x21) (unless (closing rs) (nextRule k rs)) tag (command-opens k rs b h)
+    (λ f. by-test P (eqb b 0x22) (nextTag k rs) (refuse 1) (command-tag k rs b h) (λ g. tt)))
+step-follows (place k rs) b h = (h, ap (λ (x : List ℕ). 0x20 ∷ k ∷ x) (sym (append-assoc (down rs) (0x21 ∷ []) (b ∷ []))))
+step-follows (new-tag k rs p) b h =
+    by-test (Follows (new-tag k rs p) b) (ltb b k) (go (command k (opened p b ∷ rs))) (refuse 4)
+    (λ e. (
+      (h .0, h .1, (record { short = omega arith; pattern-below = tt; tag-below = ltb-true b k e }, h .2)),
+      ap (λ (x : List ℕ). 0x20 ∷ k ∷ x) (sym (append-assoc (down rs) (0x21 ∷ p ∷ []) (b ∷ []))),
+    ))
+    (λ e. tt)
+step-follows (pattern-tag k r rs) b h =
+    by-test (Follows (pattern-tag k r rs) b) (ltb b k) (go (command k (longer r b ∷ rs))) (refuse 4)
+    (λ e. (
+      (h .0, h .1, (longer-open k r b (h .2) (h .3) (ltb-true b k e), h .4)),
+      ap (λ (x : List ℕ). 0x20 ∷ k ∷ x) (longer-bytes r rs b),
+    ))
+    (λ e. tt)
+step-follows (ended k rs) b h = tt
+
+valid-append : (l k : ℕ) (rs more : List Rule) → ValidRules l k rs → ValidRules l k more → ValidRules l k (rs ++ more)
+valid-append l k [] more h m = m
+valid-append l k (r ∷ rs) more h m = (h .0, valid-append l k rs more (h .1) m)
+
+valid-reverse : (l k : ℕ) (rs : List Rule) → ValidRules l k rs → ValidRules l k (reverse rs)
+valid-reverse l k [] h = tt
+valid-reverse l k (r ∷ rs) h =
+    subst (ValidRules l k) (sym (reverse-cons r rs)) (valid-append l k (reverse rs) (r ∷ []) (valid-reverse l k rs (h .1)) (h .0, tt))
+
+encodeRules-append : (rs more : List Rule) → encodeRules (rs ++ more) ≡ encodeRules rs ++ encodeRules more
+encodeRules-append [] more = refl
+encodeRules-append (r ∷ rs) more =
+    ap (λ (x : List ℕ). encodeRule r ++ x) (encodeRules-append rs more) ∙ sym (append-assoc (encodeRule r) (encodeRules rs) (encodeRules more))
+
+down-reverse : (rs : List Rule) → encodeRules (reverse rs) ≡ down rs
+down-reverse [] = refl
+down-reverse (r ∷ rs) =
+    ap encodeRules (reverse-cons r rs)
+    ∙ encodeRules-append (reverse rs) (r ∷ [])
+    ∙ cc (down-reverse rs, append-nil (encodeRule r))
+
+-- a cascade that reading on gives is valid, and the bytes are its encoding
+abbrev Encodes : Stage → List ℕ → Cascade → Type 0
+Encodes s bs c = Valid c × (behind s ++ bs ≡ encode c)
+
+not-read : {A : Type 0} (n at : ℕ) (c : Cascade) → refused n (byte at) ≡ result c → A
+not-read n at c e = let z : _≡_ {A = ℕ} 0 1 = cc in absurd (omega arith)
+
+read-ends : (s : Stage) (at : ℕ) (c : Cascade) → Shown s → finish s at ≡ result c → Encodes s [] c
+read-ends opening at c h e = not-read 1 at c e
+read-ends size at c h e = not-read 1 at c e
+read-ends (command k rs) at c h e = not-read 1 at c e
+read-ends (place k rs) at c h e = not-read 1 at c e
+read-ends (new-tag k rs p) at c h e = not-read 1 at c e
+read-ends (pattern-tag k r rs) at c h e = not-read 1 at c e
+read-ends (ended k rs) at c h e =
+    subst (Encodes (ended k rs) [])
+    same (
+      record {
+        enough-tags = h .0 .enough;
+        few-tags = h .0 .few;
+        few-rules = subst (λ (n : ℕ). n ≤ most-rules) (sym (length-reverse rs)) (h .1);
+        rules-valid = valid-reverse longest-pattern k rs (h .2);
+      },
+      cc (append-nil (behind (ended k rs)), down-reverse rs),
+    )
+  where
+    same : cascade k (reverse rs) ≡ c
+    same = cc
+
+read-follows : (s : Stage) (at : ℕ) (bs : List ℕ) (c : Cascade) → Shown s → readFrom s at bs ≡ result c → Encodes s bs c
+read-follows s at [] c h e = read-ends s at c h e
+read-follows s at (b ∷ bs) c h e = next (step s b) (step-follows s b h) e (λ s' i f. read-follows s' (suc at) bs c i f)
+  where
+    next : (n : Next) → Follows s b n → _≡_ {A = Outcome Cascade} (elim n [ go s' ↦ readFrom s' (suc at) bs | refuse m ↦ refused m (byte at) ]) (result c)
+        → ((s' : Stage) → Shown s' → readFrom s' (suc at) bs ≡ result c → Encodes s' bs c) → Encodes s (b ∷ bs) c
+    next (go s') f e r = let g = r s' (f .0) e in (g .0, cc (g .1, f .1, append-assoc (behind s) (b ∷ []) bs))
+    next (refuse m) f e r = not-read m at c e
+
+-- "A book is valid if none of the refusals for a book fits its bytes": the reader takes the encodings of valid cascades and nothing else
+pub reads-exactly : (bs : List ℕ) (c : Cascade) → (read bs ≡ result c) ↔ (Valid c × (bs ≡ encode c))
+reads-exactly bs c = (
+  λ e. read-follows opening 0 bs c tt e,
+  λ h. ap read (h .1) ∙ reads-encoding c (h .0),
+)
+
+-- ---- what the arrays of a book that was read hold
+
+down-valid : (l k : ℕ) (a : Kept) (m : ℕ) → ValidRules l k (rulesDown a m) → (i : ℕ) → i < m → ValidRule l k (ruleAt a i)
+down-valid l k a (suc m) h i n = at (ℕ-discrete i m) (down-valid l k a m (h .1) i)
+  where
+    at : Dec (i ≡ m) → (i < m → ValidRule l k (ruleAt a i)) → ValidRule l k (ruleAt a i)
+    at (yes e) f = rw e (h .0)
+    at (no d) f = f (omega arith)
+
+-- each rule of the arrays is valid
+pub kept-valid : (bs : List ℕ) (k m : ℕ) (a : Kept) → result (cascade k (reverse (rulesDown a m))) ≡ read bs
+    → (i : ℕ) → i < m → ValidRule longest-pattern k (ruleAt a i)
+kept-valid bs k m a e =
+    let v = reads-exactly bs (cascade k (reverse (rulesDown a m))) .0 (sym e) .0 .rules-valid in
+    down-valid longest-pattern k a m
+    (subst (ValidRules longest-pattern k) (reverse-reverse (rulesDown a m)) (valid-reverse longest-pattern k (reverse (rulesDown a m)) v))
+
+-- and there are at most sixteen
+pub kept-few : (bs : List ℕ) (k m : ℕ) (a : Kept) → result (cascade k (reverse (rulesDown a m))) ≡ read bs → m ≤ most-rules
+kept-few bs k m a e =
+    let v = reads-exactly bs (cascade k (reverse (rulesDown a m))) .0 (sym e) .0 .few-rules in
+    omega (arith, length-reverse (rulesDown a m), down-length a m)

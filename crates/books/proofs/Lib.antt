@@ -1,0 +1,5 @@
+-- Laws of books.
+pub mod Encode
+pub mod Kept
+pub mod Commands
+pub mod Resume

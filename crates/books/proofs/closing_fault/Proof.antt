@@ -1,0 +1,100 @@
+-- `books::closing_fault` meets its contract: each return is a case of `fault` at the last rule.
+use Prim.Native.Nat.{_-_}
+use native.Mathlib.Omega.{arith}
+use borrow.Author.Needs.{needs}
+use mathlib.Core.Path.{_∙_, sym, ap}
+use Rattle.books.specs.Kept.{Kept, kept}
+use Rattle.books.proofs.Kept.{closing-empty, closing-outside, closing-same, closing-none}
+use Rattle.books.proofs.closing_fault.Statement.{statement}
+use Rattle.books.proofs.closing_fault.Tie as tie
+use Rattle.books.proofs.closing_fault.Reads as reads
+use Rattle.books.proofs.closing_fault.Lts as lts
+use Rattle.books.proofs.wide.Reads as wide-reads
+
+abbrev arrays : tie.Start → Kept
+arrays s = kept (s .args .rows .now) (s .args .lengths .now) (s .args .places .now) (s .args .tags .now)
+
+-- src/lib.rt:45:9
+returns : tie.Need-returns
+returns c = search needs
+
+-- src/lib.rt:47:16
+sub-last : tie.Need-sub-last
+sub-last c = search needs
+
+-- src/lib.rt:48:13
+mul-n : tie.Need-mul-n
+mul-n c = search needs
+
+-- src/lib.rt:48:13
+element-copy-out-n : tie.Need-element-copy-out-n
+element-copy-out-n c = search needs
+
+-- src/lib.rt:50:9
+returns-2 : tie.Need-returns-2
+returns-2 c =
+    let s = c .before .before .before in
+    closing-empty (arrays s) (s .pre .0) (s .args .m) (s .pre .1) (c .before .before .if1 .left) (c .if2 .taken)
+
+-- src/lib.rt:52:18
+element-copy-out-wide : tie.Need-element-copy-out-wide
+element-copy-out-wide c = search needs
+
+-- src/lib.rt:52:9
+wide-requires : tie.Need-wide-requires
+wide-requires c κs = search needs
+
+-- src/lib.rt:54:9
+returns-3 : tie.Need-returns-3
+returns-3 c =
+    let s = c .before .before .before .before .before .before in
+    closing-outside (arrays s) (s .pre .0) (s .args .m) (s .pre .1) (search needs) (search needs) (omega arith)
+
+-- src/lib.rt:56:8
+mul-if4 : tie.Need-mul-if4
+mul-if4 c = search needs
+
+-- src/lib.rt:56:8
+index-1-if4 : tie.Need-index-1-if4
+index-1-if4 c = search needs
+
+-- src/lib.rt:56:8
+index-2-if4 : tie.Need-index-2-if4
+index-2-if4 c =
+    let s = c .before .before .before .before .before .before in
+    omega (arith, s .pre .0 .length-short (s .args .m - 1), c .if3 .left)
+
+-- src/lib.rt:56:25
+element-copy-out-if4 : tie.Need-element-copy-out-if4
+element-copy-out-if4 c = search needs
+
+-- src/lib.rt:57:9
+returns-4 : tie.Need-returns-4
+returns-4 c =
+    let s = c .before .before .before .before .before .before .before .before .before in
+    closing-same (arrays s) (s .pre .0) (s .args .m) (s .pre .1) (search needs) (search needs) (omega arith) (cc (c .if4 .taken))
+
+-- src/lib.rt:33:1
+returns-5 : tie.Need-returns-5
+returns-5 c =
+    let s = c .before .before .before .before .before .before .before .before .before in
+    closing-none (arrays s) (s .pre .0) (s .args .m) (s .pre .1) (search needs) (search needs) (omega arith) (λ e. c .if4 .left (cc))
+
+pub closing-fault-spec : {M : Type 1} → statement M
+closing-fault-spec =
+    tie.close
+    (tie.spec
+    returns
+    sub-last
+    mul-n
+    element-copy-out-n
+    returns-2
+    element-copy-out-wide
+    wide-requires
+    returns-3
+    mul-if4
+    index-1-if4
+    index-2-if4
+    element-copy-out-if4
+    returns-4
+    returns-5)

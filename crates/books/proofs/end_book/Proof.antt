@@ -1,0 +1,73 @@
+-- `books::end_book` meets its contract: each return is a case of the definition at 00.
+use native.Mathlib.Omega.{arith}
+use borrow.Author.Needs.{needs}
+use Prim.Native.Nat.{ℕ, _+_, _-_}
+use mathlib.Core.Path.{_∙_, sym, ap}
+use lib.ListN.{length, getD}
+use Rattle.answers.specs.Outcome.{Outcome}
+use Rattle.cascades.specs.Rule.{Cascade}
+use Rattle.books.specs.Kept.{Kept, kept}
+use Rattle.books.specs.Resume.{readCommands}
+use Rattle.books.specs.Answer.{cascadeOutcome}
+use Rattle.books.specs.declared.BookAnswer.{BookAnswer}
+use Rattle.books.proofs.Commands.{end-fault, end-more, end-whole}
+use Rattle.books.proofs.end_book.Statement.{statement}
+use Rattle.books.proofs.end_book.Tie as tie
+use Rattle.books.proofs.end_book.Reads as reads
+use Rattle.books.proofs.end_book.Lts as lts
+use Rattle.books.proofs.closing_fault.Reads as closing-fault-reads
+use Rattle.books.proofs.refused.Reads as refused-reads
+
+abbrev arrays : tie.Start → Kept
+arrays st = kept (st .args .rows .now) (st .args .lengths .now) (st .args .places .now) (st .args .tags .now)
+
+abbrev entry : tie.Start → Outcome Cascade
+entry st = readCommands (st .args .s .now) (st .args .k) (st .args .m) (arrays st) (st .args .at)
+
+-- src/lib.rt:101:9
+closing-fault-requires : tie.Need-closing-fault-requires
+closing-fault-requires c κs = search needs
+
+-- src/lib.rt:103:9
+refused-requires : tie.Need-refused-requires
+refused-requires c κs = search needs
+
+-- src/lib.rt:103:9
+returns : tie.Need-returns
+returns c =
+    let st = c .before .before .before .before in
+    ap (λ (r : BookAnswer). cascadeOutcome r (arrays st)) (c .refused .ensures)
+    ∙ sym (end-fault (st .args .s .now) (st .args .k) (st .args .m) (arrays st) (st .args .at) (st .pre .1 .1) (st .pre .1 .2) (c .before .before .closing-fault .result) (c .before .before .closing-fault .ensures) (search needs))
+
+-- src/lib.rt:105:16
+add-next : tie.Need-add-next
+add-next c = search needs
+
+-- src/lib.rt:107:9
+refused-requires-2 : tie.Need-refused-requires-2
+refused-requires-2 c κs = search needs
+
+-- src/lib.rt:107:9
+returns-2 : tie.Need-returns-2
+returns-2 c =
+    let st = c .before .before .before .before .before in
+    ap (λ (r : BookAnswer). cascadeOutcome r (arrays st)) (c .refused2 .ensures)
+    ∙ sym (end-more (st .args .s .now) (st .args .k) (st .args .m) (arrays st) (st .args .at) (st .pre .1 .1) (st .pre .1 .2) (cc) (omega arith))
+
+-- src/lib.rt:87:1
+returns-3 : tie.Need-returns-3
+returns-3 c =
+    let st = c .before .before .before .before in
+    sym (end-whole (st .args .s .now) (st .args .k) (st .args .m) (arrays st) (st .args .at) (st .pre .1 .1) (st .pre .1 .2) (cc) (omega arith))
+
+pub end-book-spec : {M : Type 1} → statement M
+end-book-spec =
+    tie.close
+    (tie.spec
+    closing-fault-requires
+    refused-requires
+    returns
+    add-next
+    refused-requires-2
+    returns-2
+    returns-3)

@@ -1,0 +1,30 @@
+-- Valid books, and their bytes (document 01, "Bytes of a book").
+use Prim.Native.Nat.{ℕ, _≤_}
+use mathlib.Core.List.{List, [], _∷_, _++_}
+use lib.ListN.{length}
+use Rattle.limits.specs.Limits.{fewest-tags, most-tags, most-rules, longest-pattern}
+use Rattle.cascades.specs.Rule.{Rule, Cascade, ValidRules}
+
+-- "K 2 to 48; at most 16 rules", each with "a pattern u of 1 to 6 tags"
+pub record Valid (b : Cascade) : Type 0 where
+  pub enough-tags : fewest-tags ≤ b .tags
+  pub few-tags : b .tags ≤ most-tags
+  pub few-rules : length (b .rules) ≤ most-rules
+  pub rules-valid : ValidRules longest-pattern (b .tags) (b .rules)
+
+-- "22, then a tag (1 byte). The next tag of the pattern"
+abbrev pub encodePattern : List ℕ → List ℕ
+encodePattern [] = []
+encodePattern (a ∷ u) = 0x22 ∷ a ∷ encodePattern u
+
+-- "21, then p and the new tag (1 byte each). Opens a rule and closes the one before"
+abbrev pub encodeRule : Rule → List ℕ
+encodeRule r = 0x21 ∷ r .place ∷ r .tag ∷ encodePattern (r .pattern)
+
+abbrev pub encodeRules : List Rule → List ℕ
+encodeRules [] = []
+encodeRules (r ∷ rs) = encodeRule r ++ encodeRules rs
+
+-- "20, then K (1 byte). Opens the book, once"; "00. Closes the last rule and the book; it is the last byte"
+abbrev pub encode : Cascade → List ℕ
+encode b = 0x20 ∷ b .tags ∷ (encodeRules (b .rules) ++ (0x00 ∷ []))

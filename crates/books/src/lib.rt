@@ -1,0 +1,273 @@
+// Books: reading their bytes.
+use answers::Refusal;
+use limits::PATTERN;
+use limits::RULES;
+ghost use mathlib.Core.Path.{_≡_};
+ghost use Prim.Native.Nat.{ℕ, _+_, _≤_, _<_};
+ghost use mathlib.Core.List.{[]};
+ghost use lib.ListN.{length, getD};
+ghost use Rattle.answers.specs.declared.Refusal.the-variants.{AtByte};
+ghost use Rattle.limits.specs.Limits.{most-rules};
+ghost use Rattle.books.specs.Read.{read, closing, width};
+ghost use Rattle.books.specs.Kept.{Kept, kept, Shaped, rulesDown};
+ghost use Rattle.books.specs.Answer.{sizes, bookOutcome, cascadeOutcome};
+ghost use Rattle.books.specs.Resume.{Resumes, Whole, readCommands};
+
+pub enum BookAnswer {
+    Book { tags: u8, rules: usize },
+    Refused(Refusal),
+}
+
+fn refused(number: u8, byte: usize) -> BookAnswer
+    ensures { λ r. ⌜ r ≡ BookAnswer.Refused (AtByte number byte) ⌝ }
+{
+    BookAnswer::Refused(Refusal::AtByte { number, byte })
+}
+
+fn wide(x: u8) -> usize
+    ensures { λ r. ⌜ r ≡ x ⌝ }
+{
+    x as usize
+}
+
+// The refusal that closing the last of m rules gives, 0 for none.
+fn closing_fault(
+    rows: &[[u8; PATTERN]; RULES],
+    lengths: &[usize; RULES],
+    places: &[u8; RULES],
+    tags: &[u8; RULES],
+    m: usize,
+) -> u8
+    requires { ⌜ Shaped (kept (now rows) (now lengths) (now places) (now tags)) ⌝ }
+    requires { ⌜ m ≤ most-rules ⌝ }
+    ensures { λ r. ⌜ r ≡ closing (rulesDown (kept (now (rows .entry)) (now (lengths .entry)) (now (places .entry)) (now (tags .entry))) m) ⌝ }
+{
+    if m == 0 {
+        return 0;
+    }
+    let last = m - 1;
+    let n = lengths[last];
+    if n == 0 {
+        return 3;
+    }
+    let p = wide(places[last]);
+    if n <= p {
+        return 5;
+    }
+    if rows[last][p] == tags[last] {
+        return 6;
+    }
+    0
+}
+
+// 20 and K.
+fn open_book(s: &[u8]) -> BookAnswer
+    ensures { λ r. ⌜ ((a : Kept) → Shaped a → Resumes (now (s .entry)) (read (now (s .entry))) 2 a r) ⌝ }
+{
+    if s.len() == 0 {
+        return refused(1, 0);
+    }
+    if s[0] != 0x20 {
+        return refused(1, 0);
+    }
+    if s.len() == 1 {
+        return refused(1, 1);
+    }
+    let k = s[1];
+    if k < limits::FEWEST_TAGS {
+        return refused(2, 1);
+    }
+    if limits::MOST_TAGS < k {
+        return refused(2, 1);
+    }
+    BookAnswer::Book { tags: k, rules: 0 }
+}
+
+// 00 at `at`: closes the last rule and the book.
+fn end_book(
+    s: &[u8],
+    at: usize,
+    k: u8,
+    m: usize,
+    rows: &[[u8; PATTERN]; RULES],
+    lengths: &[usize; RULES],
+    places: &[u8; RULES],
+    tags: &[u8; RULES],
+) -> BookAnswer
+    requires { ⌜ Shaped (kept (now rows) (now lengths) (now places) (now tags)) ⌝ }
+    requires { ⌜ (m ≤ most-rules) × (at < length (now s)) × (getD (now s) at 0 ≡ 0) ⌝ }
+    ensures { λ r. ⌜ cascadeOutcome r (kept (now (rows .entry)) (now (lengths .entry)) (now (places .entry)) (now (tags .entry))) ≡ readCommands (now (s .entry)) k m (kept (now (rows .entry)) (now (lengths .entry)) (now (places .entry)) (now (tags .entry))) at ⌝ }
+{
+    let fault = closing_fault(rows, lengths, places, tags, m);
+    if fault != 0 {
+        return refused(fault, at);
+    }
+    let next = at + 1;
+    if next < s.len() {
+        return refused(1, next);
+    }
+    BookAnswer::Book { tags: k, rules: m }
+}
+
+// 21 at `at`: closes the last rule and opens another.
+fn open_rule(
+    s: &[u8],
+    at: usize,
+    k: u8,
+    m: usize,
+    rows: &[[u8; PATTERN]; RULES],
+    lengths: &mut [usize; RULES],
+    places: &mut [u8; RULES],
+    tags: &mut [u8; RULES],
+) -> BookAnswer
+    requires { ⌜ Shaped (kept (now rows) (now lengths) (now places) (now tags)) ⌝ }
+    requires { ⌜ (m ≤ most-rules) × (at < length (now s)) × (getD (now s) at 0 ≡ 0x21) ⌝ }
+    ensures { λ r. ⌜ Resumes (now (s .entry)) (readCommands (now (s .entry)) k m (kept (now (rows .entry)) (now (lengths .entry)) (now (places .entry)) (now (tags .entry))) at) (at + 1 + 1 + 1) (kept (now (rows .entry)) (now (lengths .exit)) (now (places .exit)) (now (tags .exit))) r ⌝ }
+{
+    let fault = closing_fault(rows, lengths, places, tags, m);
+    if fault != 0 {
+        return refused(fault, at);
+    }
+    if RULES <= m {
+        return refused(7, at);
+    }
+    let first = at + 1;
+    if s.len() == first {
+        return refused(1, first);
+    }
+    let second = first + 1;
+    if s.len() == second {
+        return refused(1, second);
+    }
+    let tag = s[second];
+    if k <= tag {
+        return refused(4, second);
+    }
+    lengths[m] = 0;
+    places[m] = s[first];
+    tags[m] = tag;
+    BookAnswer::Book {
+        tags: k,
+        rules: m + 1,
+    }
+}
+
+// 22 at `at`: the next tag of the last rule's pattern.
+fn add_tag(
+    s: &[u8],
+    at: usize,
+    k: u8,
+    m: usize,
+    rows: &mut [[u8; PATTERN]; RULES],
+    lengths: &mut [usize; RULES],
+    places: &[u8; RULES],
+    tags: &[u8; RULES],
+) -> BookAnswer
+    requires { ⌜ Shaped (kept (now rows) (now lengths) (now places) (now tags)) ⌝ }
+    requires { ⌜ (m ≤ most-rules) × (at < length (now s)) × (getD (now s) at 0 ≡ 0x22) ⌝ }
+    ensures { λ r. ⌜ Resumes (now (s .entry)) (readCommands (now (s .entry)) k m (kept (now (rows .entry)) (now (lengths .entry)) (now (places .entry)) (now (tags .entry))) at) (at + 1 + 1) (kept (now (rows .exit)) (now (lengths .exit)) (now (places .entry)) (now (tags .entry))) r ⌝ }
+{
+    if m == 0 {
+        return refused(1, at);
+    }
+    let last = m - 1;
+    let n = lengths[last];
+    if PATTERN <= n {
+        return refused(3, at);
+    }
+    let first = at + 1;
+    if s.len() == first {
+        return refused(1, first);
+    }
+    let tag = s[first];
+    if k <= tag {
+        return refused(4, first);
+    }
+    rows[last][n] = tag;
+    lengths[last] = n + 1;
+    BookAnswer::Book { tags: k, rules: m }
+}
+
+fn width_of(command: u8) -> usize
+    ensures { λ r. ⌜ r ≡ width command ⌝ }
+{
+    if command == 0x22 { 2 } else { 3 }
+}
+
+// The command at `at`, which is not 00.
+fn read_command(
+    s: &[u8],
+    at: usize,
+    k: u8,
+    m: usize,
+    rows: &mut [[u8; PATTERN]; RULES],
+    lengths: &mut [usize; RULES],
+    places: &mut [u8; RULES],
+    tags: &mut [u8; RULES],
+) -> BookAnswer
+    requires { ⌜ Shaped (kept (now rows) (now lengths) (now places) (now tags)) ⌝ }
+    requires { ⌜ (m ≤ most-rules) × (at < length (now s)) × (getD (now s) at 0 ≡ 0 → ⊥) ⌝ }
+    ensures { λ r. ⌜ Resumes (now (s .entry)) (readCommands (now (s .entry)) k m (kept (now (rows .entry)) (now (lengths .entry)) (now (places .entry)) (now (tags .entry))) at) (at + width (getD (now (s .entry)) at 0)) (kept (now (rows .exit)) (now (lengths .exit)) (now (places .exit)) (now (tags .exit))) r ⌝ }
+{
+    let command = s[at];
+    if command == 0x22 {
+        return add_tag(s, at, k, m, rows, lengths, places, tags);
+    }
+    if command == 0x21 {
+        return open_rule(s, at, k, m, rows, lengths, places, tags);
+    }
+    refused(1, at)
+}
+
+// Reads a book into the caller's arrays: a pattern a row, its length, place and new tag beside.
+pub fn read_into(
+    s: &[u8],
+    rows: &mut [[u8; PATTERN]; RULES],
+    lengths: &mut [usize; RULES],
+    places: &mut [u8; RULES],
+    tags: &mut [u8; RULES],
+) -> BookAnswer
+    requires { ⌜ Shaped (kept (now rows) (now lengths) (now places) (now tags)) ⌝ }
+    ensures { λ r. ⌜ Whole (now (s .entry)) (kept (now (rows .exit)) (now (lengths .exit)) (now (places .exit)) (now (tags .exit))) r ⌝ }
+{
+    let opened = open_book(s);
+    let BookAnswer::Book {
+        tags: tags0,
+        rules: rules0,
+    } = opened
+    else {
+        return opened;
+    };
+    let mut k = tags0;
+    let mut m = rules0;
+    let mut at = 2;
+    while at < s.len() {
+        let command = s[at];
+        if command == 0 {
+            return end_book(s, at, k, m, rows, lengths, places, tags);
+        }
+        let got = read_command(s, at, k, m, rows, lengths, places, tags);
+        let BookAnswer::Book {
+            tags: tags1,
+            rules: rules1,
+        } = got
+        else {
+            return got;
+        };
+        k = tags1;
+        m = rules1;
+        at += width_of(command);
+    }
+    refused(1, at)
+}
+
+// K and the number of rules, or the refusal with its byte.
+pub fn read_book(book: &[u8]) -> BookAnswer
+    ensures { λ r. ⌜ bookOutcome r ≡ sizes (read (now (book .entry))) ⌝ }
+{
+    let mut rows = [[0u8; PATTERN]; RULES];
+    let mut lengths = [0usize; RULES];
+    let mut places = [0u8; RULES];
+    let mut tags = [0u8; RULES];
+    read_into(book, &mut rows, &mut lengths, &mut places, &mut tags)
+}

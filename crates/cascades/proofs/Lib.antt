@@ -1,0 +1,3 @@
+-- Laws of rules and cascades.
+pub mod Leftmost
+pub mod Rewrite

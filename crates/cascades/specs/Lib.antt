@@ -1,0 +1,4 @@
+-- Rules, cascades and what they make of a sentence.
+pub mod Rule
+pub mod Rewrite
+pub mod Leftmost

@@ -1,0 +1,21 @@
+-- What a rule and a cascade make of a sentence.
+use Prim.Native.Nat.{ℕ}
+use mathlib.Core.Bool.{Bool, true, false}
+use mathlib.Core.List.{List, [], _∷_, _++_}
+use lib.ListN.{length, drop}
+use Rattle.words.specs.Word.{prefix}
+use Rattle.cascades.specs.Rule.{Rule, replaced}
+
+-- "If u occurs in a sentence, its leftmost occurrence becomes v, once; otherwise the sentence is unchanged".
+-- The theorem in proofs/Leftmost.antt says that this is 002's leftmost rewrite relation
+abbrev pub rewrite : List ℕ → List ℕ → List ℕ → List ℕ
+rewrite u v [] = []
+rewrite u v (a ∷ w) = elim (prefix u (a ∷ w)) [ true ↦ v ++ drop (length u) (a ∷ w) | false ↦ a ∷ rewrite u v w ]
+
+abbrev pub apply : Rule → List ℕ → List ℕ
+apply r w = rewrite (r .pattern) (replaced r) w
+
+-- "A book applies its rules in order, each to the result of the one before"; 002's behavior of a cascade
+abbrev pub behavior : List Rule → List ℕ → List ℕ
+behavior [] w = w
+behavior (r ∷ rs) w = behavior rs (apply r w)

@@ -1,0 +1,1 @@
+// Rules and cascades. Definitions and laws only: specs/ and proofs/.

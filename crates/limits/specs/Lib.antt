@@ -1,0 +1,2 @@
+-- The bounds of document 01.
+pub mod Limits

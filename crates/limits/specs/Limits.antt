@@ -1,0 +1,18 @@
+-- Document 01, "Bounds": "K 2 to 48; at most 16 rules; sentence at most 65,535 tags; ceiling N of states 1 to 256", "1 to 6 tags" in a
+-- pattern. src/lib.rt has the same numbers for code; no other file has them.
+use Prim.Native.Nat.{ℕ}
+
+abbrev pub fewest-tags : ℕ
+fewest-tags = 2
+
+abbrev pub most-tags : ℕ
+most-tags = 48
+
+abbrev pub most-rules : ℕ
+most-rules = 16
+
+abbrev pub longest-pattern : ℕ
+longest-pattern = 6
+
+abbrev pub longest-sentence : ℕ
+longest-sentence = 65535

@@ -1,0 +1,4 @@
+-- Laws of the smallest table of a cascade.
+pub mod OneRule
+pub mod TableOf
+pub mod Theorems

@@ -1,0 +1,3 @@
+-- The smallest table of a cascade.
+pub mod OneRule
+pub mod TableOf

@@ -1,0 +1,32 @@
+-- The table of a cascade: it does what the cascade does, is the smallest one that does, early and numbered.
+-- Time grows with the rules times the work of the phases on the table so far, composed with one rule.
+use Prim.Native.Nat.{ℕ}
+use mathlib.Core.List.{List, [], _∷_}
+use Rattle.cascades.specs.Rule.{Rule}
+use Rattle.transducers.specs.Transducer.{Shape}
+use Rattle.transducers.specs.Table.{Table}
+use Rattle.transducers.specs.Tabulate.{table}
+use Rattle.transducers.specs.Compose.{compose}
+use Rattle.transducers.specs.Normalize.{normalize}
+use Rattle.transducers.specs.Merge.{merge}
+use Rattle.transducers.specs.Number.{number}
+use Rattle.minimal.specs.OneRule.{ruleTable}
+
+-- one state that puts out what it reads
+abbrev pub identity : Shape
+identity = record { count = 1; next = λ q a. 0; output = λ q a. a ∷ []; final = λ q. [] }
+
+-- the phases for one more rule, whose transducer is u
+abbrev pub add : ℕ → Table → Table → Table
+add k t u =
+    let composed = compose k t u in
+    let normalized = normalize k composed in
+    let merged = merge k normalized in
+    number k merged
+
+abbrev pub addAll : ℕ → Table → List Rule → Table
+addAll k t [] = t
+addAll k t (r ∷ rs) = addAll k (add k t (ruleTable k r)) rs
+
+abbrev pub tableOf : ℕ → List Rule → Table
+tableOf k rs = addAll k (table k identity) rs

@@ -1,0 +1,1 @@
+// The smallest table of a cascade. Definitions and laws only: specs/ and proofs/.

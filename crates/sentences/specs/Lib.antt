@@ -1,0 +1,3 @@
+-- Sentences that are run: their refusals, the result and its place in the output slice.
+pub mod Run
+pub mod Admission

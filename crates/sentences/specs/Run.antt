@@ -1,0 +1,50 @@
+-- A run over a sentence, of a book or of a table.
+use Prim.Native.Nat.{ℕ, max}
+use mathlib.Core.Path.{_≡_}
+use mathlib.Core.Bool.{true, false}
+use mathlib.Core.List.{List, [], _∷_, _++_}
+use lib.Dec.{leb, ltb}
+use lib.ListN.{length, drop}
+use Rattle.limits.specs.Limits.{longest-sentence}
+use Rattle.words.specs.Word.{differences}
+use Rattle.answers.specs.Outcome.{Outcome, result, refused, nothing}
+use Rattle.answers.specs.Answer.{runOutcome}
+use Rattle.answers.specs.declared.RunAnswer.{RunAnswer}
+
+-- the highest tag of a word, 0 of the empty one
+abbrev pub highest : List ℕ → ℕ
+highest [] = 0
+highest (a ∷ w) = max a (highest w)
+
+-- "Then the sentence: 13 before 4", and 11 if the output slice is shorter than the result, which is as long as the sentence.
+-- 13: sentence longer than 65,535; 4: a tag not below k
+abbrev pub run : ℕ → List ℕ → ℕ → List ℕ → Outcome (List ℕ)
+run k sentence room made =
+    elim (leb (length sentence) longest-sentence) [
+      | false ↦ refused 13 nothing
+      | true ↦
+          elim (ltb (highest sentence) k) [
+            | false ↦ refused 4 nothing
+            | true ↦ elim (leb (length sentence) room) [ false ↦ refused 11 nothing | true ↦ result made ]
+          ]
+    ]
+
+-- the answer of a run: the number of changed tags
+abbrev pub changed : List ℕ → Outcome (List ℕ) → Outcome ℕ
+changed sentence (result made) = result (differences sentence made)
+changed sentence (refused n p) = refused n p
+
+-- the output slice at exit: "what lies beyond the result keeps its bytes", and "Output slices keep their bytes on every refusal"
+abbrev pub written : Outcome (List ℕ) → List ℕ → List ℕ
+written (result made) out = made ++ drop (length made) out
+written (refused n p) out = out
+
+-- a result has been written to the front of the output slice, and its changed tags counted
+pub record Wrote (made sentence before after : List ℕ) (changes : ℕ) : Type 0 where
+  pub counted : changes ≡ differences sentence made
+  pub front : after ≡ made ++ drop (length made) before
+
+-- a run has ended: its answer is the number of changed tags or the refusal, and the output slice holds the result or its old bytes
+pub record Ran (outcome : Outcome (List ℕ)) (sentence before after : List ℕ) (answer : RunAnswer) : Type 0 where
+  pub answered : runOutcome answer ≡ changed sentence outcome
+  pub wrote : after ≡ written outcome before

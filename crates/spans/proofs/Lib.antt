@@ -1,0 +1,2 @@
+-- Laws of the proof sheet.
+pub mod Span

@@ -1,0 +1,74 @@
+-- `spans::last_difference` meets its contract: the places passed, from the end, are the same.
+use Prim.Native.Nat.{ℕ, _+_, _-_, _≤_}
+use native.Mathlib.Omega.{arith}
+use borrow.Author.Needs.{needs}
+use mathlib.Core.Path.{_≡_, _∙_, sym}
+use lib.ListN.{length, take}
+use Rattle.spans.specs.Span.{last}
+use Rattle.spans.proofs.Span.{last-start, last-stop, last-down, last-end}
+use Rattle.spans.proofs.last_difference.Statement.{statement}
+use Rattle.spans.proofs.last_difference.Tie as tie
+use Rattle.spans.proofs.last_difference.Reads as reads
+use Rattle.spans.proofs.last_difference.Lts as lts
+
+abbrev Inv-loop : tie.InvT-loop
+Inv-loop v w i₀ i = (i ≤ length v) × (last v w ≡ last (take i v) (take i w))
+
+abbrev μ-loop : tie.MeasureT-loop
+μ-loop v w i₀ i = i
+
+-- src/lib.rt:27:5
+loop-holds : tie.Need-loop-holds Inv-loop μ-loop
+loop-holds c = (omega arith, last-start (c .args .v .now) (c .args .w .now) (c .pre))
+
+-- src/lib.rt:28:17
+sub-j : tie.Need-sub-j Inv-loop μ-loop
+sub-j c = search needs
+
+-- src/lib.rt:29:12
+shared-slice-read-if1 : tie.Need-shared-slice-read-if1 Inv-loop μ-loop
+shared-slice-read-if1 c = search needs
+
+-- src/lib.rt:29:20
+shared-slice-read-if1-2 : tie.Need-shared-slice-read-if1-2 Inv-loop μ-loop
+shared-slice-read-if1-2 c = search needs
+
+-- src/lib.rt:30:13
+returns : tie.Need-returns Inv-loop μ-loop
+returns c =
+    let st = c .before .before .before .before .before in
+    let l = c .before .before .before .before .loop in
+    sym (l .inv .1 ∙ last-stop (st .args .v .now) (st .args .w .now) (l .i) (st .pre) (omega arith) (omega arith) (c .if1 .taken))
+
+-- src/lib.rt:27:5
+loop-less : tie.Need-loop-less Inv-loop μ-loop
+loop-less c = search needs
+
+-- src/lib.rt:27:5
+loop-again : tie.Need-loop-again Inv-loop μ-loop
+loop-again c =
+    let st = c .before .before .before .before .before in
+    let l = c .before .before .before .before .loop in
+    (omega arith, l .inv .1 ∙ last-down (st .args .v .now) (st .args .w .now) (l .i) (st .pre) (omega arith) (omega arith) (c .if1 .left))
+
+-- src/lib.rt:22:1
+returns-2 : tie.Need-returns-2 Inv-loop μ-loop
+returns-2 c =
+    let a = c .before .before .args in
+    let l = c .before .loop in
+    last-end (a .v .now) (a .w .now) (l .i) (omega arith) ∙ sym (l .inv .1)
+
+pub last-difference-spec : {M : Type 1} → statement M
+last-difference-spec =
+    tie.close
+    (tie.spec
+    Inv-loop
+    μ-loop
+    loop-holds
+    sub-j
+    shared-slice-read-if1
+    shared-slice-read-if1-2
+    returns
+    loop-less
+    loop-again
+    returns-2)

@@ -1,0 +1,2 @@
+-- The proof sheet.
+pub mod Span

@@ -1,0 +1,77 @@
+-- `tagger::apply_rules` meets its contract. The loop's invariant: the rules passed have been applied.
+use Prim.Native.Nat.{ℕ, _-_, _≤_}
+use native.Mathlib.Omega.{arith}
+use borrow.Author.Needs.{needs}
+use mathlib.Core.Path.{_≡_, refl, _∙_, sym, ap}
+use mathlib.Core.List.{List, reverse}
+use lib.ListN.{length}
+use Rattle.cascades.specs.Rewrite.{behavior}
+use Rattle.books.specs.Kept.{Kept, kept, rulesDown}
+use Rattle.tagger.proofs.Laws.{rule-next}
+use Rattle.tagger.proofs.apply_rules.Statement.{statement}
+use Rattle.tagger.proofs.apply_rules.Tie as tie
+use Rattle.tagger.proofs.apply_rules.Reads as reads
+use Rattle.tagger.proofs.apply_rules.Lts as lts
+use Rattle.tagger.proofs.apply_rule.Reads as apply-rule-reads
+
+abbrev Inv-loop : tie.InvT-loop
+Inv-loop s₀ rows lengths places tags m i₀ s i =
+    (i ≤ m) × (length s ≡ length s₀) × (s ≡ behavior (reverse (rulesDown (kept rows lengths places tags) i)) s₀)
+
+abbrev μ-loop : tie.MeasureT-loop
+μ-loop s₀ rows lengths places tags m i₀ s i = m - i
+
+abbrev arrays : tie.Start Inv-loop μ-loop → Kept
+arrays st = kept (st .args .rows .now) (st .args .lengths .now) (st .args .places .now) (st .args .tags .now)
+
+-- src/lib.rt:98:5
+loop-holds : tie.Need-loop-holds Inv-loop μ-loop
+loop-holds c = (omega arith, refl, refl)
+
+-- src/lib.rt:99:9
+apply-rule-requires : tie.Need-apply-rule-requires Inv-loop μ-loop
+apply-rule-requires c κs =
+    let st = c .before .before .before .before in
+    (st .pre .0, (omega arith, st .pre .1 .1 (c .before .before .loop .i) (omega arith)))
+
+-- src/lib.rt:100:9
+add-i : tie.Need-add-i Inv-loop μ-loop
+add-i c = search needs
+
+-- src/lib.rt:98:5
+loop-less : tie.Need-loop-less Inv-loop μ-loop
+loop-less c = search needs
+
+-- src/lib.rt:98:5
+loop-again : tie.Need-loop-again Inv-loop μ-loop
+loop-again c =
+    let st = c .before .before .before .before .before .before .before in
+    let l = c .before .before .before .before .before .loop in
+    let called = c .before .before .apply-rule in
+    (omega arith, called .kept .0 ∙ l .inv .1, called .ensures ∙ rule-next (arrays st) (l .i) (st .args .s .now) (l .s) (l .inv .2))
+
+-- src/lib.rt:85:1
+same-length : tie.Need-same-length Inv-loop μ-loop
+same-length c = search needs
+
+-- src/lib.rt:85:1
+returns : tie.Need-returns Inv-loop μ-loop
+returns c =
+    let st = c .before .before .before in
+    let l = c .before .loop in
+    let e : l .i ≡ st .args .m = omega arith in
+    l .inv .2 ∙ ap (λ (n : ℕ). behavior (reverse (rulesDown (arrays st) n)) (st .args .s .now)) e
+
+pub apply-rules-spec : {M : Type 1} → statement M
+apply-rules-spec =
+    tie.close
+    (tie.spec
+    Inv-loop
+    μ-loop
+    loop-holds
+    apply-rule-requires
+    add-i
+    loop-less
+    loop-again
+    same-length
+    returns)

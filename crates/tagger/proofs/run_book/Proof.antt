@@ -1,0 +1,82 @@
+-- `tagger::run_book` meets its contract.
+use borrow.Author.Needs.{needs}
+use Prim.Native.Nat.{ℕ}
+use mathlib.Core.Path.{subst}
+use mathlib.Core.List.{List}
+use lib.ListN.{length}
+use Rattle.answers.specs.Outcome.{Outcome}
+use Rattle.sentences.specs.Run.{Ran}
+use Rattle.sentences.proofs.Laws.{ran-refused}
+use Rattle.books.specs.Kept.{kept}
+use Rattle.books.proofs.Kept.{fresh-shaped}
+use Rattle.tagger.specs.Run.{bookRun}
+use Rattle.tagger.proofs.Laws.{book-refused, book-runs, few-rules, places-inside}
+use Rattle.tagger.proofs.run_book.Statement.{statement}
+use Rattle.tagger.proofs.run_book.Tie as tie
+use Rattle.tagger.proofs.run_book.Reads as reads
+use Rattle.tagger.proofs.run_book.Lts as lts
+use Rattle.books.proofs.read_into.Reads as read-into-reads
+use Rattle.tagger.proofs.run_rules.Reads as run-rules-reads
+
+-- src/lib.rt:152:9
+read-into-requires : tie.Need-read-into-requires
+read-into-requires c κs = fresh-shaped
+
+-- src/lib.rt:154:29
+enum-known-got : tie.Need-enum-known-got
+enum-known-got c = search needs
+
+-- src/lib.rt:155:34
+enum-known-got-2 : tie.Need-enum-known-got-2
+enum-known-got-2 c = search needs
+
+-- src/lib.rt:155:48
+run-rules-requires : tie.Need-run-rules-requires
+run-rules-requires c κs =
+    let st = c .before .before .before .before .before .before .before .before .before .before .before .before .before .before .before .before in
+    let r = c .before .before .before .before .before .before .before .before .read-into in
+    let a = kept (r .last .1 .0) (r .last .1 .1 .0) (r .last .1 .1 .1 .0) (r .last .1 .1 .1 .1 .0) in
+    let book = c .before .before .before .before .before .before .got2 .given in (
+      r .ensures .shaped,
+      (
+        few-rules (st .args .book .now) a (r .result) (r .ensures) (book .0 .0) (book .0 .1 .0) (book .1),
+        places-inside (st .args .book .now) a (r .result) (r .ensures) (book .0 .0) (book .0 .1 .0) (book .1),
+      ),
+    )
+
+-- src/lib.rt:145:1
+returns : tie.Need-returns
+returns c =
+    let st = c .before .before .before .before .before .before .before .before .before .before .before in
+    let r = c .before .before .before .read-into in
+    let a = kept (r .last .1 .0) (r .last .1 .1 .0) (r .last .1 .1 .1 .0) (r .last .1 .1 .1 .1 .0) in
+    ran-refused (bookRun (st .args .book .now) (st .args .sentence .now) (length (st .args .out .now))) (st .args .sentence .now) (st .args .out .now) _
+    (book-refused (st .args .book .now) a (r .result) (r .ensures) (st .args .sentence .now) (length (st .args .out .now)) _ (c .before .got .given .1))
+
+-- src/lib.rt:145:1
+same-length : tie.Need-same-length
+same-length c = search needs
+
+-- src/lib.rt:145:1
+returns-2 : tie.Need-returns-2
+returns-2 c =
+    let st = c .before .before .before .before .before .before .before .before .before .before .before .before .before .before .before .before .before .before .before in
+    let r = c .before .before .before .before .before .before .before .before .before .before .before .read-into in
+    let a = kept (r .last .1 .0) (r .last .1 .1 .0) (r .last .1 .1 .1 .0) (r .last .1 .1 .1 .1 .0) in
+    let book = c .before .before .before .before .before .before .before .before .before .got2 .given in
+    let u = c .before .before .run-rules in
+    subst (λ (o : Outcome (List ℕ)). Ran o (st .args .sentence .now) (st .args .out .now) (u .last .1 .0) (u .result))
+    (book-runs (st .args .book .now) a (r .result) (r .ensures) (book .0 .0) (book .0 .1 .0) (book .1) (st .args .sentence .now) (length (st .args .out .now)))
+    (u .ensures)
+
+pub run-book-spec : {M : Type 1} → statement M
+run-book-spec =
+    tie.close
+    (tie.spec
+    read-into-requires
+    enum-known-got
+    enum-known-got-2
+    run-rules-requires
+    returns
+    same-length
+    returns-2)

@@ -1,0 +1,2 @@
+-- The run of a book.
+pub mod Run

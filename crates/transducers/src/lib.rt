@@ -1,0 +1,1 @@
+// Sequential transducers. Definitions and laws only: specs/ and proofs/.

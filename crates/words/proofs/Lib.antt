@@ -1,0 +1,4 @@
+-- Laws of words.
+pub mod Word
+pub mod Front
+pub mod Overlap

@@ -1,0 +1,43 @@
+-- Laws of overlaps.
+use Prim.Native.Nat.{ℕ, suc, _≤_}
+use native.Mathlib.Omega.{arith}
+use mathlib.Core.Path.{_≡_, refl, sym, ap}
+use mathlib.Core.List.{List, [], _∷_, _++_}
+use mathlib.Core.Bool.{Bool, true, false}
+use lib.ListN.{length, take, drop, length-append}
+use lib.Seq.{take-append-seam, take-all}
+use Rattle.words.specs.Word.{prefix}
+use Rattle.words.specs.Overlap.{overlap, skipped}
+use Rattle.words.proofs.Word.{prefix-split, prefix-length}
+
+-- the overlap ends the one word and begins the other
+pub overlap-split : (u t : List ℕ) → t ≡ skipped u t ++ take (overlap u t) u
+overlap-split u [] = refl
+overlap-split u (b ∷ t) = go (prefix (b ∷ t) u) refl (overlap-split u t)
+  where
+    go : (c : Bool) → prefix (b ∷ t) u ≡ c → t ≡ skipped u t ++ take (overlap u t) u
+        → b ∷ t ≡ elim c [ true ↦ [] | false ↦ b ∷ skipped u t ] ++ take (elim c [ true ↦ suc (length t) | false ↦ overlap u t ]) u
+    go true e h = sym (rw (prefix-split (b ∷ t) u e) (take-append-seam (b ∷ t) (drop (length (b ∷ t)) u)))
+    go false e h = ap {B = List ℕ} (λ l. b ∷ l) h
+
+pub overlap-le : (u t : List ℕ) → (overlap u t ≤ length t) × (overlap u t ≤ length u)
+overlap-le u [] = omega arith
+overlap-le u (b ∷ t) = go (prefix (b ∷ t) u) refl (overlap-le u t)
+  where
+    go : (c : Bool) → prefix (b ∷ t) u ≡ c → (overlap u t ≤ length t) × (overlap u t ≤ length u)
+        → (elim c [ true ↦ suc (length t) | false ↦ overlap u t ] ≤ suc (length t)) × (elim c [ true ↦ suc (length t) | false ↦ overlap u t ] ≤ length u)
+    go true e h = omega (arith, prefix-length (b ∷ t) u e)
+    go false e h = omega arith
+
+-- a prefix overlaps whole
+pub overlap-prefix : (u t : List ℕ) → prefix t u ≡ true → overlap u t ≡ length t
+overlap-prefix u [] h = refl
+overlap-prefix u (b ∷ t) h = rw (h, overlap)
+
+-- a word that is no longer overlaps in all of u only if it is u
+pub overlap-full : (u t : List ℕ) → length t ≤ length u → overlap u t ≡ length u → t ≡ u
+overlap-full u t le e = go (skipped u t) (rw (e, take-all (length u) u (omega arith)) at (overlap-split u t))
+  where
+    go : (y : List ℕ) → t ≡ y ++ u → t ≡ u
+    go [] h = h
+    go (b ∷ y) h = absurd (omega (arith, simp length-append at (ap length h)))

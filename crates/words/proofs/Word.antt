@@ -1,0 +1,82 @@
+-- Words whose tags are all below k; the test for a prefix; equality as a test.
+use Prim.Native.Nat.{ℕ, zero, suc, _≤_, _<_}
+use native.Mathlib.Omega.{arith}
+use native.Mathlib.Decide.{decLt}
+use mathlib.Core.Logic.{_⊎_, inl, inr}
+use mathlib.Core.Path.{_≡_, refl, sym, ap, _∙_}
+use mathlib.Core.List.{List, [], _∷_, _++_}
+use mathlib.Core.Bool.{Bool, true, false, false≢true}
+use lib.ListN.{length, take, drop, getD, set, take-append-drop, length-append}
+use lib.Dec.{eqb}
+use borrow.Author.Tests.{eqb-true, eq-eqb}
+use Rattle.words.specs.Word.{Below, prefix}
+
+-- a number below n + 1 is below n or is n
+pub below-suc : (i n : ℕ) → i < suc n → (i < n) ⊎ (i ≡ n)
+below-suc i n h = by (decLt i n)
+  where
+    by : Dec (i < n) → (i < n) ⊎ (i ≡ n)
+    by (yes lt) = inl lt
+    by (no nlt) = inr (omega arith)
+
+pub below-append : (k : ℕ) (u v : List ℕ) → Below k u → Below k v → Below k (u ++ v)
+below-append k [] v hu hv = hv
+below-append k (a ∷ u) v hu hv = (hu .0, below-append k u v (hu .1) hv)
+
+pub below-left : (k : ℕ) (u v : List ℕ) → Below k (u ++ v) → Below k u
+below-left k [] v h = tt
+below-left k (a ∷ u) v h = (h .0, below-left k u v (h .1))
+
+pub below-right : (k : ℕ) (u v : List ℕ) → Below k (u ++ v) → Below k v
+below-right k [] v h = h
+below-right k (a ∷ u) v h = below-right k u v (h .1)
+
+pub below-take : (k n : ℕ) (u : List ℕ) → Below k u → Below k (take n u)
+below-take k n u h = below-left k (take n u) (drop n u) (rw take-append-drop h)
+
+pub below-drop : (k n : ℕ) (u : List ℕ) → Below k u → Below k (drop n u)
+below-drop k n u h = below-right k (take n u) (drop n u) (rw take-append-drop h)
+
+pub below-set : (k : ℕ) (u : List ℕ) (i a : ℕ) → a < k → Below k u → Below k (set u i a)
+below-set k [] i a h b = tt
+below-set k (c ∷ u) zero a h b = (h, b .1)
+below-set k (c ∷ u) (suc i) a h b = (b .0, below-set k u i a h (b .1))
+
+pub below-at : (k : ℕ) (u : List ℕ) (i : ℕ) → i < length u → Below k u → getD u i 0 < k
+below-at k [] i h b = absurd (omega arith)
+below-at k (a ∷ u) zero h b = b .0
+below-at k (a ∷ u) (suc i) h b = below-at k u i (omega arith) (b .1)
+
+-- a word is a prefix of itself and what follows
+pub prefix-append : (u y : List ℕ) → prefix u (u ++ y) ≡ true
+prefix-append [] y = refl
+prefix-append (a ∷ u) y = rw (eq-eqb a a refl, prefix) (prefix-append u y)
+
+-- a prefix stands at the front
+pub prefix-split : (u w : List ℕ) → prefix u w ≡ true → w ≡ u ++ drop (length u) w
+prefix-split [] w h = refl
+prefix-split (a ∷ u) [] h = absurd (false≢true h)
+prefix-split (a ∷ u) (b ∷ w) h = go (eqb a b) refl h (prefix-split u w)
+  where
+    go : (t : Bool) → eqb a b ≡ t → elim t [ true ↦ prefix u w | false ↦ false ] ≡ true → (prefix u w ≡ true → w ≡ u ++ drop (length u) w)
+        → b ∷ w ≡ a ∷ (u ++ drop (length u) w)
+    go true e h rest = cc (eqb-true a b e, rest h)
+    go false e h rest = absurd (false≢true h)
+
+-- a word that begins s and more, and is no shorter than s, begins with s
+pub prefix-shorter : (u s x : List ℕ) → length s ≤ length u → prefix u (s ++ x) ≡ true → prefix s u ≡ true
+prefix-shorter u [] x le h = refl
+prefix-shorter [] (b ∷ s) x le h = absurd (omega arith)
+prefix-shorter (a ∷ u) (b ∷ s) x le h = go (eqb a b) refl h (prefix-shorter u s x (omega arith))
+  where
+    go : (t : Bool) → eqb a b ≡ t → elim t [ true ↦ prefix u (s ++ x) | false ↦ false ] ≡ true
+        → (prefix u (s ++ x) ≡ true → prefix s u ≡ true) → prefix (b ∷ s) (a ∷ u) ≡ true
+    go true e h rest = rw (eq-eqb b a (sym (eqb-true a b e)), prefix) (rest h)
+    go false e h rest = absurd (false≢true h)
+
+pub prefix-length : (u w : List ℕ) → prefix u w ≡ true → length u ≤ length w
+prefix-length u w h = omega (arith, simp length-append at (ap length (prefix-split u w h)))
+
+-- where the test fails, the word does not begin so
+pub prefix-other : (u w y : List ℕ) → prefix u w ≡ false → w ≡ u ++ y → ⊥
+prefix-other u w y h e = false≢true (sym h ∙ ap (prefix u) e ∙ prefix-append u y)

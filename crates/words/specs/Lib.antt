@@ -1,0 +1,4 @@
+-- Words of tags: what the layers above say of them.
+pub mod Word
+pub mod Front
+pub mod Overlap

@@ -1,0 +1,1 @@
+// Words of tags. Definitions and laws only: specs/ and proofs/.
