@@ -23,13 +23,13 @@ fn last_difference(v: &[u8], w: &[u8]) -> usize
     requires { ⌜ length (now v) ≡ length (now w) ⌝ }
     ensures { λ r. ⌜ r ≡ last (now (v .entry)) (now (w .entry)) ⌝ }
 {
-    let mut i = v.len();
-    while 0 < i {
-        let j = i - 1;
+    let mut end = v.len();
+    while 0 < end {
+        let j = end - 1;
         if v[j] != w[j] {
-            return i;
+            return end;
         }
-        i = j;
+        end = j;
     }
     0
 }

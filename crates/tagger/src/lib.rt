@@ -138,7 +138,8 @@ fn run_rules(
     if let Admission::Refused(refusal) = admission {
         return RunAnswer::Refused(refusal);
     }
-    RunAnswer::Changed(write_rules(sentence, out, m, rows, lengths, places, tags))
+    let changes = write_rules(sentence, out, m, rows, lengths, places, tags);
+    RunAnswer::Changed(changes)
 }
 
 // Runs a book over a sentence: the number of changed tags, with the result in the first bytes of `out`; or the refusal.

@@ -12,10 +12,10 @@ use Rattle.spans.proofs.last_difference.Reads as reads
 use Rattle.spans.proofs.last_difference.Lts as lts
 
 abbrev Inv-loop : tie.InvT-loop
-Inv-loop v w i₀ i = (i ≤ length v) × (last v w ≡ last (take i v) (take i w))
+Inv-loop v w end₀ end = (end ≤ length v) × (last v w ≡ last (take end v) (take end w))
 
 abbrev μ-loop : tie.MeasureT-loop
-μ-loop v w i₀ i = i
+μ-loop v w end₀ end = end
 
 -- src/lib.rt:27:5
 loop-holds : tie.Need-loop-holds Inv-loop μ-loop
@@ -38,7 +38,7 @@ returns : tie.Need-returns Inv-loop μ-loop
 returns c =
     let st = c .before .before .before .before .before in
     let l = c .before .before .before .before .loop in
-    sym (l .inv .1 ∙ last-stop (st .args .v .now) (st .args .w .now) (l .i) (st .pre) (omega arith) (omega arith) (c .if1 .taken))
+    sym (l .inv .1 ∙ last-stop (st .args .v .now) (st .args .w .now) (l .end) (st .pre) (omega arith) (omega arith) (c .if1 .taken))
 
 -- src/lib.rt:27:5
 loop-less : tie.Need-loop-less Inv-loop μ-loop
@@ -49,14 +49,14 @@ loop-again : tie.Need-loop-again Inv-loop μ-loop
 loop-again c =
     let st = c .before .before .before .before .before in
     let l = c .before .before .before .before .loop in
-    (omega arith, l .inv .1 ∙ last-down (st .args .v .now) (st .args .w .now) (l .i) (st .pre) (omega arith) (omega arith) (c .if1 .left))
+    (omega arith, l .inv .1 ∙ last-down (st .args .v .now) (st .args .w .now) (l .end) (st .pre) (omega arith) (omega arith) (c .if1 .left))
 
 -- src/lib.rt:22:1
 returns-2 : tie.Need-returns-2 Inv-loop μ-loop
 returns-2 c =
     let a = c .before .before .args in
     let l = c .before .loop in
-    last-end (a .v .now) (a .w .now) (l .i) (omega arith) ∙ sym (l .inv .1)
+    last-end (a .v .now) (a .w .now) (l .end) (omega arith) ∙ sym (l .inv .1)
 
 pub last-difference-spec : {M : Type 1} → statement M
 last-difference-spec =
