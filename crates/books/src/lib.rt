@@ -74,10 +74,11 @@ fn open_book(s: &[u8]) -> BookAnswer
         return refused(1, 1);
     }
     let k = s[1];
-    if k < limits::FEWEST_TAGS {
+    let n = wide(k);
+    if n < limits::FEWEST_TAGS {
         return refused(2, 1);
     }
-    if limits::MOST_TAGS < k {
+    if limits::TAGS < n {
         return refused(2, 1);
     }
     BookAnswer::Book { tags: k, rules: 0 }

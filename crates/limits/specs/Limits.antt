@@ -1,6 +1,6 @@
 -- Document 01, "Bounds": "K 2 to 48; at most 16 rules; sentence at most 65,535 tags; ceiling N of states 1 to 256", "1 to 6 tags" in a
--- pattern. src/lib.rt has the same numbers for code; no other file has them.
-use Prim.Native.Nat.{ℕ}
+-- pattern, "at most 80" held tags. src/lib.rt has the same numbers for code; no other file has them.
+use Prim.Native.Nat.{ℕ, _+_, _*_}
 
 abbrev pub fewest-tags : ℕ
 fewest-tags = 2
@@ -16,3 +16,13 @@ longest-pattern = 6
 
 abbrev pub longest-sentence : ℕ
 longest-sentence = 65535
+
+abbrev pub most-states : ℕ
+most-states = 256
+
+abbrev pub most-held : ℕ
+most-held = 80
+
+-- "With m rules the compiler's work slice of 16-bit numbers has at least 16 × N × (K + 1) × (5 × m + 8) entries"
+abbrev pub work-entries : ℕ → ℕ → ℕ → ℕ
+work-entries n k m = 16 * n * (k + 1) * (5 * m + 8)

@@ -1,9 +1,9 @@
 // The bounds of document 01, for code. specs/Limits.antt has them for definitions.
 
 // The fewest and the most tags of a book or a table.
-pub const FEWEST_TAGS: u8 = 2;
+pub const FEWEST_TAGS: usize = 2;
 
-pub const MOST_TAGS: u8 = 48;
+pub const TAGS: usize = 48;
 
 // The most tags in a pattern.
 pub const PATTERN: usize = 6;
@@ -13,3 +13,9 @@ pub const RULES: usize = 16;
 
 // The most tags in a sentence that is run.
 pub const SENTENCE: usize = 65535;
+
+// The most states of a table.
+pub const STATES: usize = 256;
+
+// The most tags that a state of a table holds back.
+pub const HELD: usize = 80;

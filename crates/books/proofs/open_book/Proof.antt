@@ -53,13 +53,16 @@ shared-slice-read-k : tie.Need-shared-slice-read-k
 shared-slice-read-k c = search needs
 
 -- src/lib.rt:78:9
+wide-requires : tie.Need-wide-requires
+wide-requires c κs = search needs
+
 refused-requires-4 : tie.Need-refused-requires-4
 refused-requires-4 c κs = search needs
 
 -- src/lib.rt:78:9
 returns-4 : tie.Need-returns-4
 returns-4 c a h =
-    let st = c .before .before .before .before .before .before .before .before in
+    let st = c .before .before .before .before .before .before .before .before .before in
     resumes-refused (st .args .s .now) (read (st .args .s .now)) 2 a h (c .refused4 .result) 2 1 (c .refused4 .ensures)
     (book-few (st .args .s .now) (omega arith) (search needs) (omega arith) (omega arith))
 
@@ -70,14 +73,14 @@ refused-requires-5 c κs = search needs
 -- src/lib.rt:81:9
 returns-5 : tie.Need-returns-5
 returns-5 c a h =
-    let st = c .before .before .before .before .before .before .before .before .before in
+    let st = c .before .before .before .before .before .before .before .before .before .before in
     resumes-refused (st .args .s .now) (read (st .args .s .now)) 2 a h (c .refused5 .result) 2 1 (c .refused5 .ensures)
     (book-many (st .args .s .now) (omega arith) (search needs) (omega arith) (omega arith) (omega arith))
 
 -- src/lib.rt:64:1
 returns-6 : tie.Need-returns-6
 returns-6 c a h =
-    let st = c .before .before .before .before .before .before .before .before in
+    let st = c .before .before .before .before .before .before .before .before .before in
     resumes-book (st .args .s .now) (read (st .args .s .now)) 2 a h (getD (st .args .s .now) 1 0) 0 (omega arith) (omega arith)
     (book-sized (st .args .s .now) (omega arith) (search needs) a (omega arith) (omega arith) (omega arith))
 
@@ -93,6 +96,7 @@ open-book-spec =
     refused-requires-3
     returns-3
     shared-slice-read-k
+    wide-requires
     refused-requires-4
     returns-4
     refused-requires-5

@@ -1,0 +1,198 @@
+-- What `compileAnswer` gives, told by the tables of the leading parts.
+use Prim.Native.Nat.{ℕ, zero, suc, _+_, _*_, _-_, _≤_, _<_}
+use native.Mathlib.Omega.{arith}
+use native.Mathlib.Decide.{decLt}
+use native.Mathlib.Nat.{mul-le-mul-left}
+use mathlib.Core.Path.{_≡_, refl, sym, ap, _∙_, subst}
+use mathlib.Core.Bool.{Bool, true, false, _&&_}
+use mathlib.Core.List.{List, [], _∷_, _++_, append-assoc, append-nil}
+use borrow.Author.Tests.{leb-true, leb-false, le-leb, lt-leb}
+use lib.Dec.{leb}
+use lib.ListN.{length, take, getD, length-append, length-take}
+use lib.Seq.{take-append-seam, take-append-le, take-all, take-at, length-take-le}
+use Rattle.limits.specs.Limits.{most-states, most-rules, longest-pattern, most-held, work-entries}
+use Rattle.answers.specs.Outcome.{Outcome, result, refused, nothing, byte, rule, andThen}
+use Rattle.cascades.specs.Rule.{Rule, Cascade, ValidRules}
+use Rattle.books.specs.Book.{Valid}
+use Rattle.books.specs.Read.{Stage, opening, size, command, place, new-tag, pattern-tag, ended, Next, go, refuse, step, readFrom, read}
+use Rattle.books.proofs.Encode.{reads-exactly}
+use Rattle.transducers.specs.Table.{Table}
+use Rattle.minimal.specs.OneRule.{ruleTable}
+use Rattle.minimal.specs.TableOf.{add, tableOf}
+use Rattle.minimal.proofs.TableOf.{good, tableOf-append}
+use Rattle.tables.specs.Bytes.{encode}
+use Rattle.tables.specs.Decode.{Decoded, decode}
+use Rattle.tables.specs.Valid.{ValidTable}
+use Rattle.tables.proofs.Theorem.{encoded}
+use Rattle.compilation.specs.Demand.{Enough}
+use Rattle.compilation.specs.Compile.{unless, withRules, compileRules, fitting, compileCascade, compileAnswer}
+
+-- the table of each leading part of j rules, j from 1 to m, has at most n states
+abbrev pub Few : ℕ → ℕ → List Rule → ℕ → Type 0
+Few k n rs m = (j : ℕ) → 1 ≤ j → j ≤ m → length (tableOf k (take j rs)) ≤ n
+
+-- i is the least number of rules whose table has more
+pub record Exceeds (k n : ℕ) (rs : List Rule) (i : ℕ) : Type 0 where
+  pub some : 1 ≤ i
+  pub inside : i ≤ length rs
+  pub more : n < length (tableOf k (take i rs))
+  pub fewer : Few k n rs (i - 1)
+
+-- the outcomes of compileRules
+pub data Told (k n : ℕ) (rs : List Rule) : Outcome Table → Type 0 where
+  fits : Few k n rs (length rs) → Told k n rs (result (tableOf k rs))
+  exceeds : (i : ℕ) → Exceeds k n rs i → Told k n rs (refused 10 (rule i))
+
+-- ---- the rules one by one
+
+few-next : (k n : ℕ) (rs : List Rule) (m : ℕ) → Few k n rs m → length (tableOf k (take (suc m) rs)) ≤ n → Few k n rs (suc m)
+few-next k n rs m f h j a b = by (decLt j (suc m))
+  where
+    by : Dec (j < suc m) → length (tableOf k (take j rs)) ≤ n
+    by (yes l) = f j a (omega arith)
+    by (no l) = let e : suc m ≡ j = omega arith in subst (λ (i : ℕ). length (tableOf k (take i rs)) ≤ n) e h
+
+-- behind the rules `done`
+told-from : (k n : ℕ) (done rs : List Rule) (t : Table) → t ≡ tableOf k done → Few k n (done ++ rs) (length done) → Told k n (done ++ rs) (withRules k n (length done) t rs)
+told-from k n done [] t e f =
+    let l : length (done ++ []) ≡ length done = ap length (append-nil done) in
+    let a : tableOf k (done ++ []) ≡ t = ap (tableOf k) (append-nil done) ∙ sym e in
+    subst (λ (u : Table). Told k n (done ++ []) (result u)) a (fits (λ j x y. f j x (omega arith)))
+told-from k n done (r ∷ rs) t e f = by (leb (length u) n) refl (told-from k n (done ++ (r ∷ [])) rs u same)
+  where
+    u : Table
+    u = add k t (ruleTable k r)
+
+    same : u ≡ tableOf k (done ++ (r ∷ []))
+    same = ap (λ (x : Table). add k x (ruleTable k r)) e ∙ sym (tableOf-append k done r)
+
+    all : done ++ (r ∷ []) ++ rs ≡ done ++ (r ∷ rs)
+    all = append-assoc done (r ∷ []) rs
+
+    long : length (done ++ (r ∷ [])) ≡ suc (length done)
+    long = length-append done (r ∷ []) ∙ (omega arith)
+
+    part : take (suc (length done)) (done ++ (r ∷ rs)) ≡ done ++ (r ∷ [])
+    part = subst (λ (x : List Rule). take (suc (length done)) x ≡ done ++ (r ∷ [])) all (take-at (done ++ (r ∷ [])) rs (suc (length done)) long)
+
+    count : length (tableOf k (take (suc (length done)) (done ++ (r ∷ rs)))) ≡ length u
+    count = ap (λ (x : List Rule). length (tableOf k x)) part ∙ ap length (sym same)
+
+    by : (b : Bool) → leb (length u) n ≡ b
+        → (Few k n (done ++ (r ∷ []) ++ rs) (length (done ++ (r ∷ []))) → Told k n (done ++ (r ∷ []) ++ rs) (withRules k n (length (done ++ (r ∷ []))) u rs))
+        → Told k n (done ++ (r ∷ rs)) (elim b [ true ↦ withRules k n (suc (length done)) u rs | false ↦ refused 10 (rule (suc (length done))) ])
+    by true g more =
+        let h : length u ≤ n = leb-true (length u) n g in
+        let next : Few k n (done ++ (r ∷ rs)) (suc (length done)) = few-next k n (done ++ (r ∷ rs)) (length done) f (omega (arith, count)) in
+        let next' : Few k n (done ++ (r ∷ []) ++ rs) (length (done ++ (r ∷ []))) =
+        λ j x y. subst (λ (s : List Rule). length (tableOf k (take j s)) ≤ n) (sym all) (next j x (omega (arith, long)))
+        in
+        subst (λ (m : ℕ). Told k n (done ++ (r ∷ rs)) (withRules k n m u rs)) long
+        (subst (λ (s : List Rule). Told k n s (withRules k n (length (done ++ (r ∷ []))) u rs)) all (more next'))
+    by false g more =
+        let h : n < length u = leb-false (length u) n g in
+        exceeds (suc (length done))
+        (record {
+          some = omega arith;
+          inside = omega (arith, length-append done (r ∷ rs));
+          more = omega (arith, count);
+          fewer = λ j x y. f j x (omega arith);
+        })
+
+pub told : (k n : ℕ) (rs : List Rule) → Told k n rs (compileRules k n rs)
+told k n rs = told-from k n [] rs (tableOf k []) refl (λ j x y. absurd (omega arith))
+
+-- ---- the bytes of a table that fits
+
+-- a cascade's table with at most 256 states is valid
+pub table-valid : (c : Cascade) → Valid c → length (tableOf (c .tags) (c .rules)) ≤ most-states → ValidTable (c .tags) (tableOf (c .tags) (c .rules))
+table-valid c v few =
+    let g = good longest-pattern (c .tags) (c .rules) (v .rules-valid) .doing in
+    record {
+      tags-least = v .enough-tags;
+      tags-most = v .few-tags;
+      states-least = g .sound .some;
+      states-most = few;
+      start = g .sound .empty;
+      held = λ q h. omega (arith, g .held q h, v .few-rules);
+      final-below = g .sound .final-below;
+      whole = g .rows;
+      next-below = g .sound .next-below;
+      output-below = g .sound .output-below;
+      balanced = g .sound .balanced;
+    }
+
+-- ---- the layers of the answer, taken off one by one
+
+-- the answer once the book is read and nothing before 10 is refused
+pub enough-answer : (book : List ℕ) (n work room : ℕ) (c : Cascade) → read book ≡ result c → Enough n work c
+    → compileAnswer book n work room ≡ andThen (compileRules (c .tags) n (c .rules)) (λ t. fitting room (encode (c .tags) t))
+enough-answer book n work room c e h =
+    cc (
+      e,
+      le-leb 1 n (h .some),
+      le-leb n most-states (h .most),
+      le-leb (work-entries n (c .tags) (length (c .rules))) work (h .entries),
+    )
+
+-- a reading's refusal names a byte
+abbrev NamesByte : Outcome Cascade → Type 0
+NamesByte (result c) = Unit {0}
+NamesByte (refused n nothing) = ⊥
+NamesByte (refused n (byte b)) = Unit {0}
+NamesByte (refused n (rule i)) = ⊥
+
+names-byte : (s : Stage) (at : ℕ) (bs : List ℕ) → NamesByte (readFrom s at bs)
+names-byte opening at [] = tt
+names-byte size at [] = tt
+names-byte (command k rs) at [] = tt
+names-byte (place k rs) at [] = tt
+names-byte (new-tag k rs p) at [] = tt
+names-byte (pattern-tag k r rs) at [] = tt
+names-byte (ended k rs) at [] = tt
+names-byte s at (b ∷ bs) = by (step s b) (λ s'. names-byte s' (suc at) bs)
+  where
+    by : (n : Next) → ((s' : Stage) → NamesByte (readFrom s' (suc at) bs))
+        → NamesByte (elim n as (λ x. Outcome Cascade) [ go s' ↦ readFrom s' (suc at) bs | refuse m ↦ refused m (byte at) ])
+    by (go s') f = f s'
+    by (refuse m) f = tt
+
+-- where the answer is a table's bytes or names a rule, the book is valid and nothing before 10 is refused
+abbrev pub Late : Outcome (List ℕ) → Type 0
+Late (result w) = Unit {0}
+Late (refused n nothing) = ⊥
+Late (refused n (byte b)) = ⊥
+Late (refused n (rule i)) = Unit {0}
+
+pub record Reached (book : List ℕ) (n work : ℕ) : Type 0 where
+  pub cascade : Cascade
+  pub reads : read book ≡ result cascade
+  pub valid : Valid cascade
+  pub enough : Enough n work cascade
+
+pub reached : (book : List ℕ) (n work room : ℕ) → Late (compileAnswer book n work room) → Reached book n work
+reached book n work room = by-ceiling (leb 1 n) (leb n most-states) refl refl
+  where
+    by-entries : (c : Cascade) → read book ≡ result c → 1 ≤ n → n ≤ most-states → (b : Bool) → leb (work-entries n (c .tags) (length (c .rules))) work ≡ b
+        → Late (elim b as (λ x. Outcome (List ℕ)) [ false ↦ refused 9 nothing | true ↦ andThen (compileRules (c .tags) n (c .rules)) (λ t. fitting room (encode (c .tags) t)) ])
+        → Reached book n work
+    by-entries c e s m true f h =
+        record {
+          cascade = c;
+          reads = e;
+          valid = reads-exactly book c .0 e .0;
+          enough = record { some = s; most = m; entries = leb-true (work-entries n (c .tags) (length (c .rules))) work f };
+        }
+    by-entries c e s m false f h = absurd h
+
+    by-book : (o : Outcome Cascade) → NamesByte o → read book ≡ o → 1 ≤ n → n ≤ most-states → Late (andThen o (compileCascade n work room)) → Reached book n work
+    by-book (result c) x e s m h = by-entries c e s m (leb (work-entries n (c .tags) (length (c .rules))) work) refl h
+    by-book (refused j nothing) x e s m h = absurd x
+    by-book (refused j (byte b)) x e s m h = absurd h
+    by-book (refused j (rule i)) x e s m h = absurd x
+
+    by-ceiling : (a b : Bool) → leb 1 n ≡ a → leb n most-states ≡ b
+        → Late (elim (a && b) as (λ x. Outcome (List ℕ)) [ false ↦ refused 8 nothing | true ↦ andThen (read book) (compileCascade n work room) ]) → Reached book n work
+    by-ceiling true true e f h = by-book (read book) (names-byte opening 0 book) refl (leb-true 1 n e) (leb-true n most-states f) h
+    by-ceiling true false e f h = absurd h
+    by-ceiling false b e f h = absurd h

@@ -1,0 +1,4 @@
+-- Theorems about compiling.
+pub mod Marked
+pub mod Answer
+pub mod Demand

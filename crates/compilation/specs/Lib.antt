@@ -1,0 +1,4 @@
+-- What compiling a book answers.
+pub mod Compile
+pub mod Instances
+pub mod Demand

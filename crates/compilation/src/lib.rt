@@ -1,0 +1,1 @@
+// What compiling a book answers. Definitions and theorems only: specs/ and proofs/.

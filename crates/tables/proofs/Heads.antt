@@ -1,0 +1,212 @@
+-- The head of a table, and how long a table can be.
+use Prim.Native.Nat.{ℕ, zero, suc, _+_, _*_, _<_, _≤_}
+use native.Mathlib.Omega.{arith}
+use mathlib.Core.Path.{_≡_, refl, sym, ap, _∙_}
+use mathlib.Core.Bool.{Bool, true, false}
+use mathlib.Core.List.{List, [], _∷_, _++_}
+use borrow.Author.Tests.{ne-eqb, lt-leb}
+use lib.Dec.{eqb, leb, ltb}
+use lib.ListN.{length, drop, getD, length-append}
+use Rattle.words.specs.Word.{Below}
+use Rattle.limits.specs.Limits.{fewest-tags, most-tags, most-states, most-held}
+use Rattle.answers.specs.Outcome.{Outcome, result, refused, nothing, andThen}
+use Rattle.transducers.specs.Table.{Step, Row, Table, row, step, no-step, no-row}
+use Rattle.tables.specs.Valid.{ValidTable}
+use Rattle.tables.specs.Bytes.{number, tagged, joined, stepBytes, rowBytes, encode}
+use Rattle.tables.specs.Decode.{Decoded, provided, malformed, word, many, readStep, readRow, readTable, decode, ended, rowsBalanced}
+use Rattle.tables.specs.Index.{Head}
+use Rattle.tables.proofs.Words.{length-tagged}
+use Rattle.tables.proofs.Parts.{Every, every-of}
+use Rattle.tables.proofs.Theorem.{decoded, head-at}
+
+pub below-of : (k : ℕ) (l : List ℕ) → ((i : ℕ) → getD l i 0 < k) → Below k l
+below-of k [] f = tt
+below-of k (x ∷ l) f = (f 0, below-of k l (λ i. f (suc i)))
+
+-- a step puts out at most one tag more than can be held
+abbrev Short : Step → Type 0
+Short v = length (v .output) ≤ most-held + 1
+
+record ShortRow (r : Row) : Type 0 where
+  held : length (r .final) ≤ most-held
+  few : length (r .steps) ≤ most-tags
+  steps : Every Short (r .steps)
+
+steps-length : (vs : List Step) → Every Short vs → length (joined stepBytes vs) ≤ (3 + 2 * (most-held + 1)) * length vs
+steps-length [] e = omega arith
+steps-length (v ∷ vs) e =
+    omega (arith, length-append (stepBytes v) (joined stepBytes vs), length-tagged 0x34 (v .output), e .0, steps-length vs (e .1))
+
+rows-length :
+    (rs : Table)
+    → Every ShortRow rs
+    → length (joined rowBytes rs) ≤ (2 + 2 * most-held + (3 + 2 * (most-held + 1)) * most-tags) * length rs
+rows-length [] e = omega arith
+rows-length (r ∷ rs) e =
+    omega (
+      arith,
+      length-append (rowBytes r) (joined rowBytes rs),
+      length-append (tagged 0x32 (r .final)) (joined stepBytes (r .steps)),
+      length-tagged 0x32 (r .final),
+      e .0 .held,
+      e .0 .few,
+      steps-length (r .steps) (e .0 .steps),
+      rows-length rs (e .1),
+    )
+
+valid-length : (k : ℕ) (t : Table) → ValidTable k t → length (encode k t) < 0xffffff
+valid-length k t v =
+    let short : Every ShortRow t =
+    every-of ShortRow t no-row
+    (λ q h. record {
+      held = v .held q h;
+      few = omega (arith, v .whole q h, v .tags-most);
+      steps =
+          every-of Short (row t q .steps) no-step
+          (λ a g. omega (arith, v .balanced q a h (omega (arith, v .whole q h)), v .held q h));
+    }) in
+    omega (arith, length-append (joined rowBytes t) (0 ∷ []), rows-length t short, v .states-most)
+
+-- a test that fails refuses, whatever stands before it
+failed : {A : Type 0} (b : Bool) (o : Outcome A) → b ≡ false → provided b o ≡ malformed
+failed b o e = rw e refl
+
+still : {A : Type 0} (b : Bool) (o : Outcome A) → o ≡ malformed → provided b o ≡ malformed
+still true o e = e
+still false o e = refl
+
+-- each part is read, or refused as 12
+data Read {A : Type 0} (o : Outcome A) : Type 0 where
+  gave : (v : A) → o ≡ result v → Read o
+  refuses : o ≡ malformed → Read o
+
+read-provided : {A : Type 0} (b : Bool) (o : Outcome A) → Read o → Read (provided b o)
+read-provided true o r = r
+read-provided false o r = refuses refl
+
+read-then : {A B : Type 0} (o : Outcome A) (f : A → Outcome B) → Read o → ((v : A) → Read (f v)) → Read (andThen o f)
+read-then o f (gave v e) g = rw e (g v)
+read-then o f (refuses e) g = refuses (rw e refl)
+
+read-many :
+    {A : Type 0} (read : List ℕ → Outcome A) (bytes : A → List ℕ)
+    → ((bs : List ℕ) → Read (read bs))
+    → (n : ℕ) (bs : List ℕ)
+    → Read (many read bytes n bs)
+read-many read bytes one zero bs = gave [] refl
+read-many read bytes one (suc n) bs =
+    read-then (read bs) _ (one bs)
+    (λ v. read-then (many read bytes n (drop (length (bytes v)) bs)) _ (read-many read bytes one n (drop (length (bytes v)) bs)) (λ vs. gave (v ∷ vs) refl))
+
+module _ (k s : ℕ) where
+  read-step : (bs : List ℕ) → Read (readStep k s bs)
+  read-step [] = refuses refl
+  read-step (c ∷ []) = refuses refl
+  read-step (c ∷ h ∷ []) = refuses refl
+  read-step (c ∷ h ∷ l ∷ bs) = read-provided (eqb c 0x33) _ (read-provided (ltb (number h l) s) _ (gave _ refl))
+
+  read-row : (bs : List ℕ) → Read (readRow k s bs)
+  read-row [] = refuses refl
+  read-row (c ∷ []) = refuses refl
+  read-row (c ∷ n ∷ bs) =
+      let w = word 0x32 k bs in
+      read-provided (eqb c 0x31) _
+      (read-provided (leb n most-held) _
+      (read-provided (eqb (length w) n) _ (read-then _ _ (read-many (readStep k s) stepBytes read-step k (drop (length (tagged 0x32 w)) bs)) (λ vs. gave _ refl))))
+
+  read-table : (bs : List ℕ) → Read (readTable k s bs)
+  read-table bs =
+      read-then _ _ (read-many (readRow k s) rowBytes read-row s bs)
+      (λ t. read-provided (ended (drop (length (joined rowBytes t)) bs)) _ (read-provided (eqb (length (row t 0 .final)) 0) _ (read-provided (rowsBalanced t t) _ (gave _ refl))))
+
+read-decode : (bs : List ℕ) → Read (decode bs)
+read-decode [] = refuses refl
+read-decode (c ∷ []) = refuses refl
+read-decode (c ∷ k ∷ []) = refuses refl
+read-decode (c ∷ k ∷ h ∷ []) = refuses refl
+read-decode (c ∷ k ∷ h ∷ l ∷ bs) =
+    read-provided (eqb c 0x30) _
+    (read-provided (leb fewest-tags k) _
+    (read-provided (leb k most-tags) _
+    (read-provided (leb 1 (number h l)) _ (read-provided (leb (number h l) most-states) _ (read-table k (number h l) bs)))))
+
+-- the faults of a head, each as 12
+pub head-long : (bs : List ℕ) → Below 0x100 bs → 0xffffff ≤ length bs → decode bs ≡ malformed
+head-long bs b h = go (read-decode bs)
+  where
+    go : Read (decode bs) → decode bs ≡ malformed
+    go (refuses e) = e
+    go (gave d e) =
+        let v = decoded bs d b e in
+        absurd (omega (arith, ap length (v .1), valid-length (d .tags) (d .table) (v .0)))
+
+pub head-short : (bs : List ℕ) → length bs < 4 → decode bs ≡ malformed
+head-short [] h = refl
+head-short (x ∷ []) h = refl
+head-short (x ∷ y ∷ []) h = refl
+head-short (x ∷ y ∷ z ∷ []) h = refl
+head-short (x ∷ y ∷ z ∷ w ∷ l) h = absurd (omega arith)
+
+module _ (c k h l : ℕ) (bs : List ℕ) where
+  command-fault : (c ≡ 0x30 → ⊥) → decode (c ∷ k ∷ h ∷ l ∷ bs) ≡ malformed
+  command-fault n = failed (eqb c 0x30) _ (ne-eqb c 0x30 n)
+
+  few-tags-fault : k < fewest-tags → decode (c ∷ k ∷ h ∷ l ∷ bs) ≡ malformed
+  few-tags-fault n = still (eqb c 0x30) _ (failed (leb fewest-tags k) _ (lt-leb fewest-tags k n))
+
+  many-tags-fault : most-tags < k → decode (c ∷ k ∷ h ∷ l ∷ bs) ≡ malformed
+  many-tags-fault n = still (eqb c 0x30) _ (still (leb fewest-tags k) _ (failed (leb k most-tags) _ (lt-leb k most-tags n)))
+
+  no-states-fault : number h l < 1 → decode (c ∷ k ∷ h ∷ l ∷ bs) ≡ malformed
+  no-states-fault n = still (eqb c 0x30) _ (still (leb fewest-tags k) _ (still (leb k most-tags) _ (failed (leb 1 (number h l)) _ (lt-leb 1 (number h l) n))))
+
+  many-states-fault : most-states < number h l → decode (c ∷ k ∷ h ∷ l ∷ bs) ≡ malformed
+  many-states-fault n = still (eqb c 0x30) _ (still (leb fewest-tags k) _ (still (leb k most-tags) _ (still (leb 1 (number h l)) _ (failed (leb (number h l) most-states) _ (lt-leb (number h l) most-states n)))))
+
+four : (bs : List ℕ) → 4 ≤ length bs → bs ≡ getD bs 0 0 ∷ getD bs 1 0 ∷ getD bs 2 0 ∷ getD bs 3 0 ∷ drop 4 bs
+four [] h = absurd (omega arith)
+four (x ∷ []) h = absurd (omega arith)
+four (x ∷ y ∷ []) h = absurd (omega arith)
+four (x ∷ y ∷ z ∷ []) h = absurd (omega arith)
+four (x ∷ y ∷ z ∷ w ∷ l) h = refl
+
+module _ (bs : List ℕ) (long : 4 ≤ length bs) where
+  here : (o : Outcome Decoded) → decode (getD bs 0 0 ∷ getD bs 1 0 ∷ getD bs 2 0 ∷ getD bs 3 0 ∷ drop 4 bs) ≡ o → decode bs ≡ o
+  here o e = ap decode (four bs long) ∙ e
+
+  pub head-command : (getD bs 0 0 ≡ 0x30 → ⊥) → decode bs ≡ malformed
+  head-command n = here _ (command-fault (getD bs 0 0) (getD bs 1 0) (getD bs 2 0) (getD bs 3 0) (drop 4 bs) n)
+
+  pub head-few-tags : getD bs 1 0 < fewest-tags → decode bs ≡ malformed
+  head-few-tags n = here _ (few-tags-fault (getD bs 0 0) (getD bs 1 0) (getD bs 2 0) (getD bs 3 0) (drop 4 bs) n)
+
+  pub head-many-tags : most-tags < getD bs 1 0 → decode bs ≡ malformed
+  head-many-tags n = here _ (many-tags-fault (getD bs 0 0) (getD bs 1 0) (getD bs 2 0) (getD bs 3 0) (drop 4 bs) n)
+
+  pub head-no-states : number (getD bs 2 0) (getD bs 3 0) < 1 → decode bs ≡ malformed
+  head-no-states n = here _ (no-states-fault (getD bs 0 0) (getD bs 1 0) (getD bs 2 0) (getD bs 3 0) (drop 4 bs) n)
+
+  pub head-many-states : most-states < number (getD bs 2 0) (getD bs 3 0) → decode bs ≡ malformed
+  head-many-states n = here _ (many-states-fault (getD bs 0 0) (getD bs 1 0) (getD bs 2 0) (getD bs 3 0) (drop 4 bs) n)
+
+  pub head-read :
+      (k s : ℕ)
+      → length bs < 0xffffff
+      → getD bs 0 0 ≡ 0x30
+      → k ≡ getD bs 1 0
+      → s ≡ number (getD bs 2 0) (getD bs 3 0)
+      → fewest-tags ≤ k
+      → k ≤ most-tags
+      → 1 ≤ s
+      → s ≤ most-states
+      → Head bs k s
+  head-read k s short e ek es k2 k48 s1 s256 =
+      record {
+        left = here _ (rw (e, ek, es) (head-at (getD bs 1 0) (getD bs 2 0) (getD bs 3 0) (drop 4 bs) (omega arith) (omega arith) (omega arith) (omega arith)));
+        inside = long;
+        few-bytes = short;
+        some-tags = k2;
+        few-tags = k48;
+        some-states = s1;
+        few-states = s256;
+      }

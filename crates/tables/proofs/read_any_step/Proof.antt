@@ -1,0 +1,123 @@
+-- `tables::read_any_step` meets its contract: each return is a case of `readStep`.
+use Prim.Native.Nat.{ℕ, _+_}
+use native.Mathlib.Omega.{arith}
+use borrow.Author.Needs.{needs}
+use mathlib.Core.Path.{_≡_, refl}
+use lib.ListN.{drop}
+use Rattle.tables.specs.Decode.{word}
+use Rattle.tables.proofs.Places.{step-short, step-other, step-high, step-part, word-stands, kept-set}
+use Rattle.tables.proofs.read_any_step.Statement.{statement}
+use Rattle.tables.proofs.read_any_step.Tie as tie
+use Rattle.tables.proofs.read_any_step.Reads as reads
+use Rattle.tables.proofs.read_any_step.Lts as lts
+use Rattle.tables.proofs.base_at.Reads as base-at-reads
+use Rattle.tables.proofs.number_at.Reads as number-at-reads
+use Rattle.tables.proofs.word_end.Reads as word-end-reads
+use Rattle.tables.proofs.word_entry.Reads as word-entry-reads
+
+then : (n : ℕ) → n + 1 + 1 ≡ n + 2
+then n = omega arith
+
+-- src/lib.rt:95:8
+sub-if1 : tie.Need-sub-if1
+sub-if1 c = search needs
+
+-- src/lib.rt:96:9
+returns : tie.Need-returns
+returns c =
+    let a = c .before .before .before .args in
+    (step-short (a .k) (a .s) (a .table .now) (a .at) (omega arith), λ i h. refl)
+
+-- src/lib.rt:98:8
+shared-slice-read-if2 : tie.Need-shared-slice-read-if2
+shared-slice-read-if2 c = search needs
+
+-- src/lib.rt:99:9
+returns-2 : tie.Need-returns-2
+returns-2 c =
+    let a = c .before .before .before .before .before .args in
+    (step-other (a .k) (a .s) (a .table .now) (a .at) (omega arith) (c .if2 .taken), λ i h. refl)
+
+-- src/lib.rt:101:33
+add-number-at : tie.Need-add-number-at
+add-number-at c = search needs
+
+-- src/lib.rt:101:9
+number-at-requires : tie.Need-number-at-requires
+number-at-requires c κs = search needs
+
+-- src/lib.rt:103:9
+returns-3 : tie.Need-returns-3
+returns-3 c =
+    let a = c .before .before .before .before .before .before .before .args in
+    (step-high (a .k) (a .s) (a .table .now) (a .at) (omega arith) (search needs) (omega (arith, rw (then (a .at)) at (c .before .number-at .ensures .0))), λ i h. refl)
+
+-- src/lib.rt:105:16
+add-from : tie.Need-add-from
+add-from c = search needs
+
+-- src/lib.rt:106:9
+word-end-requires : tie.Need-word-end-requires
+word-end-requires c κs = search needs
+
+-- src/lib.rt:107:48
+base-at-requires : tie.Need-base-at-requires
+base-at-requires c κs = search needs
+
+-- src/lib.rt:107:19
+word-entry-requires : tie.Need-word-entry-requires
+word-entry-requires c κs = search needs
+
+-- src/lib.rt:107:5
+mul-index : tie.Need-mul-index
+mul-index c = search needs
+
+-- src/lib.rt:107:5
+slice-write-index : tie.Need-slice-write-index
+slice-write-index c = search needs
+
+-- src/lib.rt:90:1
+same-length : tie.Need-same-length
+same-length c = search needs
+
+-- src/lib.rt:90:1
+returns-4 : tie.Need-returns-4
+returns-4 c =
+    let a = c .before .before .before .before .before .before .before .before .before .before .args in
+    let w = word 0x34 (a .k) (drop (a .at + 3) (a .table .now)) in
+    let b = c .before .before .before in (
+      step-part (a .k) (a .s) (a .table .now) (a .at) (omega arith) (a .index .now) (a .cell)
+          (c .before .before .word-end .result)
+          (b .before .number-at .result)
+          (c .before .base-at .result)
+          (c .word-entry .result)
+          (search needs)
+          (rw (then (a .at)) at (b .before .number-at .ensures .0))
+          (omega arith)
+          (search needs)
+          (search needs)
+          (search needs)
+          (c .word-entry .ensures w (search needs) (word-stands 0x34 (a .k) (a .table .now) (a .at + 3) (omega arith)))
+          (search needs),
+      kept-set (a .index .now) (a .cell) (c .word-entry .result),
+    )
+
+pub read-any-step-spec : {M : Type 1} → statement M
+read-any-step-spec =
+    tie.close
+    (tie.spec
+    sub-if1
+    returns
+    shared-slice-read-if2
+    returns-2
+    add-number-at
+    number-at-requires
+    returns-3
+    add-from
+    word-end-requires
+    base-at-requires
+    word-entry-requires
+    mul-index
+    slice-write-index
+    same-length
+    returns-4)

@@ -1,0 +1,67 @@
+-- `tables::run_within` meets its contract.
+use native.Mathlib.Omega.{arith}
+use borrow.Author.Needs.{needs}
+use borrow.Author.Tests.{not-true, not-false}
+use Rattle.tables.proofs.Heads.{below-of}
+use Rattle.tables.proofs.Runs.{run-malformed, not-loaded, usable}
+use Rattle.tables.proofs.run_within.Statement.{statement}
+use Rattle.tables.proofs.run_within.Tie as tie
+use Rattle.tables.proofs.run_within.Reads as reads
+use Rattle.tables.proofs.run_within.Lts as lts
+use Rattle.tables.proofs.load.Reads as load-reads
+use Rattle.tables.proofs.run_loaded.Reads as run-loaded-reads
+
+-- src/lib.rt:374:9
+load-requires : tie.Need-load-requires
+load-requires c κs = search needs
+
+-- src/lib.rt:375:9
+same-length : tie.Need-same-length
+same-length c = search needs
+
+-- src/lib.rt:375:9
+returns : tie.Need-returns
+returns c =
+    let call = c .before .before .before in
+    let a = call .before .before .before .before .before .before .args in
+    let r = call .load .result in
+    run-malformed (a .table .now) (a .sentence .now) (a .out .now)
+    (not-loaded (a .table .now) (a .k) (a .s) (call .load .last .1 .1 .1 .0) r (call .load .ensures) (not-true r (c .if1 .taken)))
+
+-- src/lib.rt:377:5
+run-loaded-requires : tie.Need-run-loaded-requires
+run-loaded-requires c κs =
+    let else = c .before .before in
+    let call = else .before .before .before in
+    let known = call .before .before .before .before .before in
+    let a = known .before .args in
+    let r = call .load .result in
+    usable (a .table .now) (a .k) (a .s) (call .load .last .1 .1 .1 .0) r
+    (below-of 0x100 (a .table .now) (λ i. omega (arith, known .shared-slice-known .given i)))
+    (call .load .ensures)
+    (not-false r (else .if1 .left))
+    (omega arith)
+
+-- src/lib.rt:369:1
+same-length-2 : tie.Need-same-length-2
+same-length-2 c = search needs
+
+-- src/lib.rt:369:1
+same-length-3 : tie.Need-same-length-3
+same-length-3 c = search needs
+
+-- src/lib.rt:369:1
+returns-2 : tie.Need-returns-2
+returns-2 c = search needs
+
+pub run-within-spec : {M : Type 1} → statement M
+run-within-spec =
+    tie.close
+    (tie.spec
+    load-requires
+    same-length
+    returns
+    run-loaded-requires
+    same-length-2
+    same-length-3
+    returns-2)

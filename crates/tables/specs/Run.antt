@@ -1,0 +1,36 @@
+-- What the public calls answer.
+use Prim.Native.Nat.{ℕ}
+use mathlib.Core.List.{List, []}
+use lib.ListN.{length}
+use Rattle.answers.specs.Outcome.{Outcome, result, refused, andThen}
+use Rattle.answers.specs.Answer.{refusal}
+use Rattle.sentences.specs.Run.{run}
+use Rattle.transducers.specs.Transducer.{puts}
+use Rattle.transducers.specs.Table.{shape}
+use Rattle.tables.specs.Decode.{Decoded, decode}
+use Rattle.tables.specs.declared.TableAnswer.{TableAnswer}
+use Rattle.tables.specs.declared.TableAnswer.the-variants.{Table, Refused}
+
+-- the K and the S of a table
+pub record Size : Type 0 where
+  pub tags : ℕ
+  pub states : ℕ
+
+-- document 01's values for each case of `TableAnswer`
+abbrev pub tableOutcome : TableAnswer → Outcome Size
+tableOutcome (Table k s) = result (record { tags = k; states = s })
+tableOutcome (Refused r) = refusal r
+
+abbrev pub sizeOf : List ℕ → Outcome Size
+sizeOf bytes = andThen (decode bytes) (λ d. result (record { tags = d .tags; states = length (d .table) }))
+
+-- "A table is the machine that starts in state 0 with an empty initial word": what it puts out, or the first refusal
+-- among 12, 13, 4 and 11
+abbrev pub tableRun : List ℕ → List ℕ → ℕ → Outcome (List ℕ)
+tableRun bytes sentence room =
+    andThen (decode bytes) (λ d. run (d .tags) sentence room (puts (shape (d .table)) 0 sentence))
+
+-- what the table puts out, if there is one
+abbrev pub made : Outcome Decoded → List ℕ → List ℕ
+made (result d) sentence = puts (shape (d .table)) 0 sentence
+made (refused n p) sentence = []

@@ -1,0 +1,600 @@
+// Tables: the reader and the run.
+use answers::Refusal;
+use answers::RunAnswer;
+use sentences::Admission;
+ghost use mathlib.Core.Path.{_≡_};
+ghost use Prim.Native.Nat.{ℕ, _+_, _*_, _/_, _%_, _≤_, _<_, min};
+ghost use mathlib.Core.List.{List, _++_};
+ghost use lib.ListN.{length, drop, getD};
+ghost use lib.Seq.{paste};
+ghost use Rattle.limits.specs.Limits.{most-tags, most-states};
+ghost use Rattle.tables.specs.Bytes.{number, joined, stepBytes, rowBytes};
+ghost use Rattle.tables.specs.Decode.{word, many, readStep, readRow, decode};
+ghost use Rattle.answers.specs.Answer.{runOutcome};
+ghost use Rattle.sentences.specs.Run.{changed, written};
+ghost use Rattle.tables.specs.Run.{made, tableRun, tableOutcome, sizeOf};
+ghost use Rattle.tables.specs.Index.{tagOf, countOf, placeOf, baseOf, Stands, Cell, SingleIf, StepCell, StepCells, RowCells, TableCells, PartRead, Kept, Asked, Level, Linked, Decides, Head, HeadRead, RowsRead, LoadedIf, SizeIf, Put, Usable, Ready};
+
+// The K and the S of a table.
+pub enum TableAnswer {
+    Table { tags: usize, states: usize },
+    Refused(Refusal),
+}
+
+// Where a part of a table ends, or that the bytes there are none.
+pub enum Reached {
+    To(usize),
+    Malformed,
+}
+
+fn wide(x: u8) -> usize
+    ensures { λ r. ⌜ (r ≡ x) × (r < 0x100) ⌝ }
+{
+    x as usize
+}
+
+fn number_at(table: &[u8], at: usize) -> usize
+    requires { ⌜ at + 1 < length (now table) ⌝ }
+    ensures { λ r. ⌜ (r ≡ number (getD (now (table .entry)) at 0) (getD (now (table .entry)) (at + 1) 0)) × (r < 0x10000) ⌝ }
+{
+    wide(table[at]) * 0x100 + wide(table[at + 1])
+}
+
+// Where the entries of a state's steps begin.
+fn base_at(state: usize, k: usize) -> usize
+    requires { ⌜ (state < most-states) × (k ≤ most-tags) ⌝ }
+    ensures { λ r. ⌜ (r ≡ state * (k + 1) + 1) × (r < 0x10000) ⌝ }
+{
+    state * (k + 1) + 1
+}
+
+// Behind the longest front of the bytes from `from` that has the command with a tag below k, again and again.
+fn word_end(table: &[u8], from: usize, command: u8, k: usize) -> usize
+    requires { ⌜ from ≤ length (now table) ⌝ }
+    ensures { λ r. ⌜ (r ≡ from + 2 * length (word command k (drop from (now (table .entry))))) × (r ≤ length (now (table .entry))) ⌝ }
+{
+    let mut at = from;
+    while 1 < table.len() - at {
+        if table[at] != command {
+            return at;
+        }
+        if k <= wide(table[at + 1]) {
+            return at;
+        }
+        at += 2;
+    }
+    at
+}
+
+// An entry of the index; the word is its tag or the place of its tags.
+fn entry(base: usize, count: usize, word: usize) -> u64
+    requires { ⌜ (base < 0x10000) × (count ≤ 0xff) × (word < 0x1000000) ⌝ }
+    ensures { λ r. ⌜ (baseOf r ≡ base) × (countOf r ≡ count) × (placeOf r ≡ word) ⌝ }
+{
+    (word as u64) * 0x10000000000 + (count as u64) * 0x100000000 + base as u64
+}
+
+fn capped(n: usize) -> usize
+    ensures { λ r. ⌜ r ≡ min n 0xff ⌝ }
+{
+    if 0xff < n {
+        return 0xff;
+    }
+    n
+}
+
+fn word_entry(table: &[u8], from: usize, end: usize, base: usize) -> u64
+    requires { ⌜ (from ≤ end) × (end ≤ length (now table)) × (length (now table) < 0xffffff) × (base < 0x10000) ⌝ }
+    ensures { λ r. ⌜ ((w : List ℕ) → end ≡ from + 2 * length w → Stands (now (table .entry)) (from + 1) w → Cell (now (table .entry)) base w r) ⌝ }
+{
+    let count = (end - from) / 2;
+    if count == 1 {
+        return entry(base, 1, wide(table[from + 1]));
+    }
+    entry(base, capped(count), from + 1)
+}
+
+fn read_any_step(
+    table: &[u8],
+    at: usize,
+    k: usize,
+    s: usize,
+    index: &mut [u64],
+    cell: usize,
+) -> Reached
+    requires { ⌜ Asked (now table) at k s × (cell < length (now index)) ⌝ }
+    ensures read { λ r. ⌜ PartRead (readStep k s) stepBytes (StepCell k (now (table .entry)) (now (index .exit)) cell) (now (table .entry)) at r ⌝ }
+    ensures kept { λ r. ⌜ Kept cell (now (index .entry)) (now (index .exit)) ⌝ }
+{
+    if table.len() - at < 3 {
+        return Reached::Malformed;
+    }
+    if table[at] != 0x33 {
+        return Reached::Malformed;
+    }
+    let next = number_at(table, at + 1);
+    if s <= next {
+        return Reached::Malformed;
+    }
+    let from = at + 3;
+    let end = word_end(table, from, 0x34, k);
+    index[cell] = word_entry(table, from, end, base_at(next, k));
+    Reached::To(end)
+}
+
+// Whether a step that puts out one tag stands there, with a byte behind it.
+fn is_single(table: &[u8], at: usize, k: usize, s: usize) -> bool
+    requires { ⌜ at ≤ length (now table) ⌝ }
+    ensures { λ r. ⌜ SingleIf r (now (table .entry)) at k s ⌝ }
+{
+    if table.len() - at <= 5 {
+        return false;
+    }
+    if table[at] != 0x33 {
+        return false;
+    }
+    if table[at + 3] != 0x34 {
+        return false;
+    }
+    if table[at + 5] == 0x34 {
+        return false;
+    }
+    if s <= number_at(table, at + 1) {
+        return false;
+    }
+    if k <= wide(table[at + 4]) {
+        return false;
+    }
+    true
+}
+
+// A step, with its entry at `cell`.
+fn read_step(table: &[u8], at: usize, k: usize, s: usize, index: &mut [u64], cell: usize) -> Reached
+    requires { ⌜ Asked (now table) at k s × (cell < length (now index)) ⌝ }
+    ensures read { λ r. ⌜ PartRead (readStep k s) stepBytes (StepCell k (now (table .entry)) (now (index .exit)) cell) (now (table .entry)) at r ⌝ }
+    ensures kept { λ r. ⌜ Kept cell (now (index .entry)) (now (index .exit)) ⌝ }
+{
+    if !is_single(table, at, k, s) {
+        return read_any_step(table, at, k, s, index, cell);
+    }
+    let next = number_at(table, at + 1);
+    index[cell] = entry(base_at(next, k), 1, wide(table[at + 4]));
+    Reached::To(at + 5)
+}
+
+// The k steps of a state, with their entries from `first`.
+fn read_steps(
+    table: &[u8],
+    at: usize,
+    k: usize,
+    s: usize,
+    index: &mut [u64],
+    first: usize,
+) -> Reached
+    requires { ⌜ Asked (now table) at k s × (first + k ≤ length (now index)) ⌝ }
+    ensures read { λ r. ⌜ PartRead (many (readStep k s) stepBytes k) (joined stepBytes) (StepCells k (now (table .entry)) (now (index .exit)) first) (now (table .entry)) at r ⌝ }
+    ensures kept { λ r. ⌜ Kept first (now (index .entry)) (now (index .exit)) ⌝ }
+{
+    let mut to = at;
+    let mut a = 0;
+    while a < k {
+        let got = read_step(table, to, k, s, index, first + a);
+        let Reached::To(end) = got else {
+            return got;
+        };
+        to = end;
+        a += 1;
+    }
+    Reached::To(to)
+}
+
+fn read_row(table: &[u8], at: usize, k: usize, s: usize, index: &mut [u64], cell: usize) -> Reached
+    requires { ⌜ Asked (now table) at k s × (cell + k < length (now index)) ⌝ }
+    ensures read { λ r. ⌜ PartRead (readRow k s) rowBytes (RowCells k (now (table .entry)) (now (index .exit)) cell) (now (table .entry)) at r ⌝ }
+    ensures kept { λ r. ⌜ Kept cell (now (index .entry)) (now (index .exit)) ⌝ }
+{
+    if table.len() - at < 2 {
+        return Reached::Malformed;
+    }
+    if table[at] != 0x31 {
+        return Reached::Malformed;
+    }
+    let held = wide(table[at + 1]);
+    if limits::HELD < held {
+        return Reached::Malformed;
+    }
+    let from = at + 2;
+    let end = word_end(table, from, 0x32, k);
+    if end != from + 2 * held {
+        return Reached::Malformed;
+    }
+    index[cell] = entry(0, held, from + 1);
+    read_steps(table, end, k, s, index, cell + 1)
+}
+
+// The s states behind the head.
+fn read_rows(table: &[u8], k: usize, s: usize, index: &mut [u64]) -> Reached
+    requires { ⌜ Asked (now table) 4 k s × (s * (k + 1) ≤ length (now index)) ⌝ }
+    ensures { λ r. ⌜ PartRead (many (readRow k s) rowBytes s) (joined rowBytes) (TableCells k s (now (table .entry)) (now (index .exit))) (now (table .entry)) 4 r ⌝ }
+{
+    let mut to = 4;
+    let mut q = 0;
+    let mut cell = 0;
+    while q < s {
+        let got = read_row(table, to, k, s, index, cell);
+        let Reached::To(end) = got else {
+            return got;
+        };
+        to = end;
+        cell += k + 1;
+        q += 1;
+    }
+    Reached::To(to)
+}
+
+fn count_of(e: u64) -> usize
+    ensures { λ r. ⌜ (r ≡ countOf e) × (r < 0x100) ⌝ }
+{
+    (e / 0x100000000 % 0x100) as usize
+}
+
+fn place_of(e: u64) -> usize
+    ensures { λ r. ⌜ r ≡ placeOf e ⌝ }
+{
+    (e / 0x10000000000) as usize
+}
+
+fn tag_of(e: u64) -> u8
+    ensures { λ r. ⌜ r ≡ tagOf e ⌝ }
+{
+    (e / 0x10000000000 % 0x100) as u8
+}
+
+fn base_of(e: u64) -> usize
+    ensures { λ r. ⌜ r ≡ baseOf e ⌝ }
+{
+    (e % 0x100000000) as usize
+}
+
+// Whether the step on a puts out one tag more than the state holds, less what the next state holds.
+fn level_step(index: &[u64], cell: usize, a: usize) -> bool
+    requires { ⌜ (cell + a + 1 < length (now index)) × Linked (now index) cell a ⌝ }
+    ensures { λ r. ⌜ Decides r (Level (now (index .entry)) cell a) ⌝ }
+{
+    let e = index[cell + 1 + a];
+    let next = base_of(e);
+    let put = count_of(e);
+    let holds = count_of(index[next - 1]);
+    let held = count_of(index[cell]);
+    if put + holds != held + 1 {
+        return false;
+    }
+    true
+}
+
+fn level_row(index: &[u64], cell: usize, k: usize) -> bool
+    requires { ⌜ (cell + k < length (now index)) × ((a : ℕ) → a < k → Linked (now index) cell a) ⌝ }
+    ensures { λ r. ⌜ Decides r ((a : ℕ) → a < k → Level (now (index .entry)) cell a) ⌝ }
+{
+    let mut a = 0;
+    while a < k {
+        if !level_step(index, cell, a) {
+            return false;
+        }
+        a += 1;
+    }
+    true
+}
+
+fn level_rows(index: &[u64], k: usize, s: usize) -> bool
+    requires { ⌜ (s * (k + 1) ≤ length (now index)) × ((q a : ℕ) → q < s → a < k → Linked (now index) (q * (k + 1)) a) ⌝ }
+    ensures { λ r. ⌜ Decides r ((q a : ℕ) → q < s → a < k → Level (now (index .entry)) (q * (k + 1)) a) ⌝ }
+{
+    let mut q = 0;
+    let mut cell = 0;
+    while q < s {
+        if !level_row(index, cell, k) {
+            return false;
+        }
+        cell += k + 1;
+        q += 1;
+    }
+    true
+}
+
+// What is left when the states are read: the last byte, and what the states hold.
+fn load_end(table: &[u8], end: usize, k: usize, s: usize, index: &[u64]) -> bool
+    requires { ⌜ RowsRead (now table) k s (now index) end ⌝ }
+    ensures { λ r. ⌜ LoadedIf r (now (table .entry)) k s (now (index .entry)) ⌝ }
+{
+    if table.len() - end != 1 {
+        return false;
+    }
+    if table[end] != 0 {
+        return false;
+    }
+    if count_of(index[0]) != 0 {
+        return false;
+    }
+    level_rows(index, k, s)
+}
+
+// Reads the bytes behind the head and fills the index.
+fn load(table: &[u8], k: usize, s: usize, index: &mut [u64]) -> bool
+    requires { ⌜ Head (now table) k s × (s * (k + 1) ≤ length (now index)) ⌝ }
+    ensures { λ r. ⌜ LoadedIf r (now (table .entry)) k s (now (index .exit)) ⌝ }
+{
+    let got = read_rows(table, k, s, index);
+    let Reached::To(end) = got else {
+        return false;
+    };
+    load_end(table, end, k, s, index)
+}
+
+// The first four bytes. No valid table has as many bytes as are refused here.
+fn read_head(table: &[u8]) -> TableAnswer
+    ensures { λ r. ⌜ HeadRead (now (table .entry)) r ⌝ }
+{
+    if table.len() < 4 {
+        return TableAnswer::Refused(Refusal::Bare { number: 12 });
+    }
+    if 0xffffff <= table.len() {
+        return TableAnswer::Refused(Refusal::Bare { number: 12 });
+    }
+    if table[0] != 0x30 {
+        return TableAnswer::Refused(Refusal::Bare { number: 12 });
+    }
+    let k = wide(table[1]);
+    let s = number_at(table, 2);
+    if k < limits::FEWEST_TAGS {
+        return TableAnswer::Refused(Refusal::Bare { number: 12 });
+    }
+    if limits::TAGS < k {
+        return TableAnswer::Refused(Refusal::Bare { number: 12 });
+    }
+    if s < 1 {
+        return TableAnswer::Refused(Refusal::Bare { number: 12 });
+    }
+    if limits::STATES < s {
+        return TableAnswer::Refused(Refusal::Bare { number: 12 });
+    }
+    TableAnswer::Table { tags: k, states: s }
+}
+
+// The tags from a place of the table, each second byte, to `out` from `at`.
+fn put_word(table: &[u8], place: usize, count: usize, out: &mut [u8], at: usize)
+    requires { ⌜ (place + 2 * count ≤ length (now table) + 1) × (at + count ≤ length (now out)) ⌝ }
+    ensures { λ r. ⌜ ((w : List ℕ) → length w ≡ count → Stands (now (table .entry)) place w → now (out .exit) ≡ paste (now (out .entry)) at w count) ⌝ }
+{
+    let mut j = 0;
+    while j < count {
+        out[at + j] = table[place + 2 * j];
+        j += 1;
+    }
+}
+
+// The word of a step's entry to `out` from `at`. One tag is stored whether or not there is one: `out` goes on, and what comes later is stored over it.
+fn put(table: &[u8], e: u64, out: &mut [u8], at: usize) -> usize
+    requires { ⌜ ((countOf e ≡ 1 → ⊥) → placeOf e + 2 * countOf e ≤ length (now table) + 1) × (at < length (now out)) × (at + countOf e ≤ length (now out)) ⌝ }
+    ensures { λ r. ⌜ ((base : ℕ) (w : List ℕ) → Cell (now (table .entry)) base w e → length w < 0xff → Put (now (out .entry)) (now (out .exit)) at w r) ⌝ }
+{
+    let count = count_of(e);
+    out[at] = tag_of(e);
+    if count < 2 {
+        return at + count;
+    }
+    put_word(table, place_of(e), count, out, at);
+    at + count
+}
+
+fn entry_at(index: &[u64], base: usize, tag: u8) -> u64
+    requires { ⌜ base + tag < length (now index) ⌝ }
+    ensures { λ r. ⌜ r ≡ getD (now (index .entry)) (base + tag) 0 ⌝ }
+{
+    let row = &index[wide(tag)..];
+    row[base]
+}
+
+// The words put out from state 0, and the final word.
+fn transduce(table: &[u8], index: &[u64], sentence: &[u8], out: &mut [u8])
+    requires { ⌜ Ready (now table) (now index) (now sentence) (now out) ⌝ }
+    ensures { λ r. ⌜ now (out .exit) ≡ made (decode (now (table .entry))) (now (sentence .entry)) ++ drop (length (now (sentence .entry))) (now (out .entry)) ⌝ }
+{
+    let mut base = 1;
+    let mut at = 0;
+    let mut i = 0;
+    while i < sentence.len() {
+        let e = entry_at(index, base, sentence[i]);
+        at = put(table, e, out, at);
+        base = base_of(e);
+        i += 1;
+    }
+    let e = index[base - 1];
+    put_word(table, place_of(e), count_of(e), out, at);
+}
+
+// The run of a table that is read.
+fn run_loaded(table: &[u8], k: usize, index: &[u64], sentence: &[u8], out: &mut [u8]) -> RunAnswer
+    requires { ⌜ Usable (now table) k (now index) ⌝ }
+    ensures answer { λ r. ⌜ runOutcome r ≡ changed (now (sentence .entry)) (tableRun (now (table .entry)) (now (sentence .entry)) (length (now (out .entry)))) ⌝ }
+    ensures output { λ r. ⌜ now (out .exit) ≡ written (tableRun (now (table .entry)) (now (sentence .entry)) (length (now (out .entry)))) (now (out .entry)) ⌝ }
+{
+    let admission = sentences::admit(sentence, k as u8, out.len());
+    if let Admission::Refused(r) = admission {
+        return RunAnswer::Refused(r);
+    }
+    transduce(table, index, sentence, out);
+    let n = sentence.len();
+    RunAnswer::Changed(sentences::count_changes(sentence, &out[..n]))
+}
+
+// The run of a table whose head is read, with room for its index.
+fn run_within(
+    table: &[u8],
+    k: usize,
+    s: usize,
+    sentence: &[u8],
+    out: &mut [u8],
+    index: &mut [u64],
+) -> RunAnswer
+    requires { ⌜ Head (now table) k s × (s * (k + 1) ≤ length (now index)) ⌝ }
+    ensures answer { λ r. ⌜ runOutcome r ≡ changed (now (sentence .entry)) (tableRun (now (table .entry)) (now (sentence .entry)) (length (now (out .entry)))) ⌝ }
+    ensures output { λ r. ⌜ now (out .exit) ≡ written (tableRun (now (table .entry)) (now (sentence .entry)) (length (now (out .entry)))) (now (out .entry)) ⌝ }
+{
+    if !load(table, k, s, index) {
+        return RunAnswer::Refused(Refusal::Bare { number: 12 });
+    }
+    run_loaded(table, k, index, sentence, out)
+}
+
+fn read_within(table: &[u8], k: usize, s: usize, index: &mut [u64]) -> bool
+    requires { ⌜ Head (now table) k s × (s * (k + 1) ≤ length (now index)) ⌝ }
+    ensures { λ r. ⌜ SizeIf r (now (table .entry)) k s ⌝ }
+{
+    load(table, k, s, index)
+}
+
+// An index is cleared for each call: small tables have a small one.
+const SMALL: usize = 192;
+
+const MIDDLE: usize = 1024;
+
+const BIG: usize = 4096;
+
+const LARGE: usize = limits::STATES * (limits::TAGS + 1);
+
+fn run_small(table: &[u8], k: usize, s: usize, sentence: &[u8], out: &mut [u8]) -> RunAnswer
+    requires { ⌜ Head (now table) k s × (s * (k + 1) ≤ 192) ⌝ }
+    ensures answer { λ r. ⌜ runOutcome r ≡ changed (now (sentence .entry)) (tableRun (now (table .entry)) (now (sentence .entry)) (length (now (out .entry)))) ⌝ }
+    ensures output { λ r. ⌜ now (out .exit) ≡ written (tableRun (now (table .entry)) (now (sentence .entry)) (length (now (out .entry)))) (now (out .entry)) ⌝ }
+{
+    let mut index = [0u64; SMALL];
+    run_within(table, k, s, sentence, out, &mut index)
+}
+
+fn read_small(table: &[u8], k: usize, s: usize) -> bool
+    requires { ⌜ Head (now table) k s × (s * (k + 1) ≤ 192) ⌝ }
+    ensures { λ r. ⌜ SizeIf r (now (table .entry)) k s ⌝ }
+{
+    let mut index = [0u64; SMALL];
+    read_within(table, k, s, &mut index)
+}
+
+fn run_middle(table: &[u8], k: usize, s: usize, sentence: &[u8], out: &mut [u8]) -> RunAnswer
+    requires { ⌜ Head (now table) k s × (s * (k + 1) ≤ 1024) ⌝ }
+    ensures answer { λ r. ⌜ runOutcome r ≡ changed (now (sentence .entry)) (tableRun (now (table .entry)) (now (sentence .entry)) (length (now (out .entry)))) ⌝ }
+    ensures output { λ r. ⌜ now (out .exit) ≡ written (tableRun (now (table .entry)) (now (sentence .entry)) (length (now (out .entry)))) (now (out .entry)) ⌝ }
+{
+    let mut index = [0u64; MIDDLE];
+    run_within(table, k, s, sentence, out, &mut index)
+}
+
+fn read_middle(table: &[u8], k: usize, s: usize) -> bool
+    requires { ⌜ Head (now table) k s × (s * (k + 1) ≤ 1024) ⌝ }
+    ensures { λ r. ⌜ SizeIf r (now (table .entry)) k s ⌝ }
+{
+    let mut index = [0u64; MIDDLE];
+    read_within(table, k, s, &mut index)
+}
+
+fn run_big(table: &[u8], k: usize, s: usize, sentence: &[u8], out: &mut [u8]) -> RunAnswer
+    requires { ⌜ Head (now table) k s × (s * (k + 1) ≤ 4096) ⌝ }
+    ensures answer { λ r. ⌜ runOutcome r ≡ changed (now (sentence .entry)) (tableRun (now (table .entry)) (now (sentence .entry)) (length (now (out .entry)))) ⌝ }
+    ensures output { λ r. ⌜ now (out .exit) ≡ written (tableRun (now (table .entry)) (now (sentence .entry)) (length (now (out .entry)))) (now (out .entry)) ⌝ }
+{
+    let mut index = [0u64; BIG];
+    run_within(table, k, s, sentence, out, &mut index)
+}
+
+fn read_big(table: &[u8], k: usize, s: usize) -> bool
+    requires { ⌜ Head (now table) k s × (s * (k + 1) ≤ 4096) ⌝ }
+    ensures { λ r. ⌜ SizeIf r (now (table .entry)) k s ⌝ }
+{
+    let mut index = [0u64; BIG];
+    read_within(table, k, s, &mut index)
+}
+
+fn run_large(table: &[u8], k: usize, s: usize, sentence: &[u8], out: &mut [u8]) -> RunAnswer
+    requires { ⌜ Head (now table) k s × (s * (k + 1) ≤ most-states * (most-tags + 1)) ⌝ }
+    ensures answer { λ r. ⌜ runOutcome r ≡ changed (now (sentence .entry)) (tableRun (now (table .entry)) (now (sentence .entry)) (length (now (out .entry)))) ⌝ }
+    ensures output { λ r. ⌜ now (out .exit) ≡ written (tableRun (now (table .entry)) (now (sentence .entry)) (length (now (out .entry)))) (now (out .entry)) ⌝ }
+{
+    let mut index = [0u64; LARGE];
+    run_within(table, k, s, sentence, out, &mut index)
+}
+
+fn read_large(table: &[u8], k: usize, s: usize) -> bool
+    requires { ⌜ Head (now table) k s × (s * (k + 1) ≤ most-states * (most-tags + 1)) ⌝ }
+    ensures { λ r. ⌜ SizeIf r (now (table .entry)) k s ⌝ }
+{
+    let mut index = [0u64; LARGE];
+    read_within(table, k, s, &mut index)
+}
+
+fn entries(k: usize, s: usize) -> usize
+    requires { ⌜ (k ≤ most-tags) × (s ≤ most-states) ⌝ }
+    ensures { λ r. ⌜ (r ≡ s * (k + 1)) × (r ≤ most-states * (most-tags + 1)) ⌝ }
+{
+    s * (k + 1)
+}
+
+fn read_states(table: &[u8], k: usize, s: usize) -> bool
+    requires { ⌜ Head (now table) k s ⌝ }
+    ensures { λ r. ⌜ SizeIf r (now (table .entry)) k s ⌝ }
+{
+    let n = entries(k, s);
+    if n <= SMALL {
+        return read_small(table, k, s);
+    }
+    if n <= MIDDLE {
+        return read_middle(table, k, s);
+    }
+    if n <= BIG {
+        return read_big(table, k, s);
+    }
+    read_large(table, k, s)
+}
+
+fn run_states(table: &[u8], k: usize, s: usize, sentence: &[u8], out: &mut [u8]) -> RunAnswer
+    requires { ⌜ Head (now table) k s ⌝ }
+    ensures answer { λ r. ⌜ runOutcome r ≡ changed (now (sentence .entry)) (tableRun (now (table .entry)) (now (sentence .entry)) (length (now (out .entry)))) ⌝ }
+    ensures output { λ r. ⌜ now (out .exit) ≡ written (tableRun (now (table .entry)) (now (sentence .entry)) (length (now (out .entry)))) (now (out .entry)) ⌝ }
+{
+    let n = entries(k, s);
+    if n <= SMALL {
+        return run_small(table, k, s, sentence, out);
+    }
+    if n <= MIDDLE {
+        return run_middle(table, k, s, sentence, out);
+    }
+    if n <= BIG {
+        return run_big(table, k, s, sentence, out);
+    }
+    run_large(table, k, s, sentence, out)
+}
+
+// Reads a table: its K and S, or 12.
+pub fn read_table(table: &[u8]) -> TableAnswer
+    ensures { λ r. ⌜ tableOutcome r ≡ sizeOf (now (table .entry)) ⌝ }
+{
+    let got = read_head(table);
+    let TableAnswer::Table { tags, states } = got else {
+        return got;
+    };
+    if read_states(table, tags, states) {
+        return got;
+    }
+    TableAnswer::Refused(Refusal::Bare { number: 12 })
+}
+
+// Runs a table over a sentence: the number of changed tags, or 12, 13, 4 or 11 in that order.
+pub fn run_table(table: &[u8], sentence: &[u8], out: &mut [u8]) -> RunAnswer
+    ensures answer { λ r. ⌜ runOutcome r ≡ changed (now (sentence .entry)) (tableRun (now (table .entry)) (now (sentence .entry)) (length (now (out .entry)))) ⌝ }
+    ensures output { λ r. ⌜ now (out .exit) ≡ written (tableRun (now (table .entry)) (now (sentence .entry)) (length (now (out .entry)))) (now (out .entry)) ⌝ }
+{
+    let got = read_head(table);
+    let TableAnswer::Table { tags, states } = got else {
+        return RunAnswer::Refused(Refusal::Bare { number: 12 });
+    };
+    run_states(table, tags, states, sentence, out)
+}
