@@ -3,6 +3,7 @@ use Prim.Native.Nat.{ℕ, zero, suc, _≤_, _<_}
 use mathlib.Core.Path.{_≡_}
 use mathlib.Core.List.{List, [], _∷_}
 use lib.ListN.{length, getD, take}
+use denote.Ref.{RefT}
 use Rattle.limits.specs.Limits.{most-rules, longest-pattern}
 use Rattle.cascades.specs.Rule.{Rule}
 
@@ -14,6 +15,10 @@ pub record Kept : Type 0 where
 
 abbrev pub kept : List (List ℕ) → List ℕ → List ℕ → List ℕ → Kept
 kept rows lengths places tags = record { rows = rows; lengths = lengths; places = places; tags = tags }
+
+-- what lent arrays hold
+abbrev pub arrays : RefT (List (List ℕ)) → RefT (List ℕ) → RefT (List ℕ) → RefT (List ℕ) → Kept
+arrays rows lengths places tags = kept (rows .now) (lengths .now) (places .now) (tags .now)
 
 -- the arrays' lengths, and that no pattern is longer than its row
 pub record Shaped (a : Kept) : Type 0 where

@@ -9,7 +9,7 @@ ghost use lib.ListN.{length, getD};
 ghost use Rattle.answers.specs.declared.Refusal.the-variants.{AtByte};
 ghost use Rattle.limits.specs.Limits.{most-rules};
 ghost use Rattle.books.specs.Read.{read, closing, width};
-ghost use Rattle.books.specs.Kept.{Kept, kept, Shaped, rulesDown};
+ghost use Rattle.books.specs.Kept.{Kept, arrays, Shaped, rulesDown};
 ghost use Rattle.books.specs.Answer.{sizes, bookOutcome, cascadeOutcome};
 ghost use Rattle.books.specs.Resume.{Resumes, Whole, readCommands};
 
@@ -38,9 +38,9 @@ fn closing_fault(
     tags: &[u8; RULES],
     m: usize,
 ) -> u8
-    requires { ⌜ Shaped (kept (now rows) (now lengths) (now places) (now tags)) ⌝ }
+    requires { ⌜ Shaped (arrays rows lengths places tags) ⌝ }
     requires { ⌜ m ≤ most-rules ⌝ }
-    ensures { λ r. ⌜ r ≡ closing (rulesDown (kept (now (rows .entry)) (now (lengths .entry)) (now (places .entry)) (now (tags .entry))) m) ⌝ }
+    ensures { λ r. ⌜ r ≡ closing (rulesDown (arrays (rows .entry) (lengths .entry) (places .entry) (tags .entry)) m) ⌝ }
 {
     if m == 0 {
         return 0;
@@ -95,9 +95,9 @@ fn end_book(
     places: &[u8; RULES],
     tags: &[u8; RULES],
 ) -> BookAnswer
-    requires { ⌜ Shaped (kept (now rows) (now lengths) (now places) (now tags)) ⌝ }
+    requires { ⌜ Shaped (arrays rows lengths places tags) ⌝ }
     requires { ⌜ (m ≤ most-rules) × (at < length (now s)) × (getD (now s) at 0 ≡ 0) ⌝ }
-    ensures { λ r. ⌜ cascadeOutcome r (kept (now (rows .entry)) (now (lengths .entry)) (now (places .entry)) (now (tags .entry))) ≡ readCommands (now (s .entry)) k m (kept (now (rows .entry)) (now (lengths .entry)) (now (places .entry)) (now (tags .entry))) at ⌝ }
+    ensures { λ r. ⌜ cascadeOutcome r (arrays (rows .entry) (lengths .entry) (places .entry) (tags .entry)) ≡ readCommands (now (s .entry)) k m (arrays (rows .entry) (lengths .entry) (places .entry) (tags .entry)) at ⌝ }
 {
     let fault = closing_fault(rows, lengths, places, tags, m);
     if fault != 0 {
@@ -121,9 +121,9 @@ fn open_rule(
     places: &mut [u8; RULES],
     tags: &mut [u8; RULES],
 ) -> BookAnswer
-    requires { ⌜ Shaped (kept (now rows) (now lengths) (now places) (now tags)) ⌝ }
+    requires { ⌜ Shaped (arrays rows lengths places tags) ⌝ }
     requires { ⌜ (m ≤ most-rules) × (at < length (now s)) × (getD (now s) at 0 ≡ 0x21) ⌝ }
-    ensures { λ r. ⌜ Resumes (now (s .entry)) (readCommands (now (s .entry)) k m (kept (now (rows .entry)) (now (lengths .entry)) (now (places .entry)) (now (tags .entry))) at) (at + 1 + 1 + 1) (kept (now (rows .entry)) (now (lengths .exit)) (now (places .exit)) (now (tags .exit))) r ⌝ }
+    ensures { λ r. ⌜ Resumes (now (s .entry)) (readCommands (now (s .entry)) k m (arrays (rows .entry) (lengths .entry) (places .entry) (tags .entry)) at) (at + 1 + 1 + 1) (arrays (rows .entry) (lengths .exit) (places .exit) (tags .exit)) r ⌝ }
 {
     let fault = closing_fault(rows, lengths, places, tags, m);
     if fault != 0 {
@@ -164,9 +164,9 @@ fn add_tag(
     places: &[u8; RULES],
     tags: &[u8; RULES],
 ) -> BookAnswer
-    requires { ⌜ Shaped (kept (now rows) (now lengths) (now places) (now tags)) ⌝ }
+    requires { ⌜ Shaped (arrays rows lengths places tags) ⌝ }
     requires { ⌜ (m ≤ most-rules) × (at < length (now s)) × (getD (now s) at 0 ≡ 0x22) ⌝ }
-    ensures { λ r. ⌜ Resumes (now (s .entry)) (readCommands (now (s .entry)) k m (kept (now (rows .entry)) (now (lengths .entry)) (now (places .entry)) (now (tags .entry))) at) (at + 1 + 1) (kept (now (rows .exit)) (now (lengths .exit)) (now (places .entry)) (now (tags .entry))) r ⌝ }
+    ensures { λ r. ⌜ Resumes (now (s .entry)) (readCommands (now (s .entry)) k m (arrays (rows .entry) (lengths .entry) (places .entry) (tags .entry)) at) (at + 1 + 1) (arrays (rows .exit) (lengths .exit) (places .entry) (tags .entry)) r ⌝ }
 {
     if m == 0 {
         return refused(1, at);
@@ -206,9 +206,9 @@ fn read_command(
     places: &mut [u8; RULES],
     tags: &mut [u8; RULES],
 ) -> BookAnswer
-    requires { ⌜ Shaped (kept (now rows) (now lengths) (now places) (now tags)) ⌝ }
+    requires { ⌜ Shaped (arrays rows lengths places tags) ⌝ }
     requires { ⌜ (m ≤ most-rules) × (at < length (now s)) × (getD (now s) at 0 ≡ 0 → ⊥) ⌝ }
-    ensures { λ r. ⌜ Resumes (now (s .entry)) (readCommands (now (s .entry)) k m (kept (now (rows .entry)) (now (lengths .entry)) (now (places .entry)) (now (tags .entry))) at) (at + width (getD (now (s .entry)) at 0)) (kept (now (rows .exit)) (now (lengths .exit)) (now (places .exit)) (now (tags .exit))) r ⌝ }
+    ensures { λ r. ⌜ Resumes (now (s .entry)) (readCommands (now (s .entry)) k m (arrays (rows .entry) (lengths .entry) (places .entry) (tags .entry)) at) (at + width (getD (now (s .entry)) at 0)) (arrays (rows .exit) (lengths .exit) (places .exit) (tags .exit)) r ⌝ }
 {
     let command = s[at];
     if command == 0x22 {
@@ -228,8 +228,8 @@ pub fn read_into(
     places: &mut [u8; RULES],
     tags: &mut [u8; RULES],
 ) -> BookAnswer
-    requires { ⌜ Shaped (kept (now rows) (now lengths) (now places) (now tags)) ⌝ }
-    ensures { λ r. ⌜ Whole (now (s .entry)) (kept (now (rows .exit)) (now (lengths .exit)) (now (places .exit)) (now (tags .exit))) r ⌝ }
+    requires { ⌜ Shaped (arrays rows lengths places tags) ⌝ }
+    ensures { λ r. ⌜ Whole (now (s .entry)) (arrays (rows .exit) (lengths .exit) (places .exit) (tags .exit)) r ⌝ }
 {
     let opened = open_book(s);
     let BookAnswer::Book {

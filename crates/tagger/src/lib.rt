@@ -11,7 +11,7 @@ ghost use lib.ListN.{length, getD, set, drop};
 ghost use Rattle.limits.specs.Limits.{most-rules};
 ghost use Rattle.words.specs.Word.{prefix};
 ghost use Rattle.cascades.specs.Rewrite.{rewrite, apply, behavior};
-ghost use Rattle.books.specs.Kept.{kept, Shaped, ruleAt, rulesDown};
+ghost use Rattle.books.specs.Kept.{arrays, Shaped, ruleAt, rulesDown};
 ghost use Rattle.sentences.specs.Run.{run, Wrote, Ran};
 ghost use Rattle.tagger.specs.Run.{bookRun};
 
@@ -68,9 +68,9 @@ fn apply_rule(
     tags: &[u8; RULES],
     i: usize,
 )
-    requires { ⌜ Shaped (kept (now rows) (now lengths) (now places) (now tags)) ⌝ }
+    requires { ⌜ Shaped (arrays rows lengths places tags) ⌝ }
     requires { ⌜ (i < most-rules) × (getD (now places) i 0 < getD (now lengths) i 0) ⌝ }
-    ensures { λ r. ⌜ now (s .exit) ≡ apply (ruleAt (kept (now (rows .entry)) (now (lengths .entry)) (now (places .entry)) (now (tags .entry))) i) (now (s .entry)) ⌝ }
+    ensures { λ r. ⌜ now (s .exit) ≡ apply (ruleAt (arrays (rows .entry) (lengths .entry) (places .entry) (tags .entry)) i) (now (s .entry)) ⌝ }
 {
     let row = rows[i];
     let n = lengths[i];
@@ -88,9 +88,9 @@ fn apply_rules(
     tags: &[u8; RULES],
     m: usize,
 )
-    requires { ⌜ Shaped (kept (now rows) (now lengths) (now places) (now tags)) ⌝ }
+    requires { ⌜ Shaped (arrays rows lengths places tags) ⌝ }
     requires { ⌜ (m ≤ most-rules) × ((i : ℕ) → i < m → getD (now places) i 0 < getD (now lengths) i 0) ⌝ }
-    ensures { λ r. ⌜ now (s .exit) ≡ behavior (reverse (rulesDown (kept (now (rows .entry)) (now (lengths .entry)) (now (places .entry)) (now (tags .entry))) m)) (now (s .entry)) ⌝ }
+    ensures { λ r. ⌜ now (s .exit) ≡ behavior (reverse (rulesDown (arrays (rows .entry) (lengths .entry) (places .entry) (tags .entry)) m)) (now (s .entry)) ⌝ }
 {
     let mut i = 0;
     while i < m {
@@ -109,9 +109,9 @@ fn write_rules(
     places: &[u8; RULES],
     tags: &[u8; RULES],
 ) -> usize
-    requires { ⌜ Shaped (kept (now rows) (now lengths) (now places) (now tags)) ⌝ }
+    requires { ⌜ Shaped (arrays rows lengths places tags) ⌝ }
     requires { ⌜ (m ≤ most-rules) × ((i : ℕ) → i < m → getD (now places) i 0 < getD (now lengths) i 0) × (length (now sentence) ≤ length (now out)) ⌝ }
-    ensures { λ r. ⌜ Wrote (behavior (reverse (rulesDown (kept (now (rows .entry)) (now (lengths .entry)) (now (places .entry)) (now (tags .entry))) m)) (now (sentence .entry))) (now (sentence .entry)) (now (out .entry)) (now (out .exit)) r ⌝ }
+    ensures { λ r. ⌜ Wrote (behavior (reverse (rulesDown (arrays (rows .entry) (lengths .entry) (places .entry) (tags .entry)) m)) (now (sentence .entry))) (now (sentence .entry)) (now (out .entry)) (now (out .exit)) r ⌝ }
 {
     let n = sentence.len();
     sentences::copy(sentence, out);
@@ -130,9 +130,9 @@ fn run_rules(
     places: &[u8; RULES],
     tags: &[u8; RULES],
 ) -> RunAnswer
-    requires { ⌜ Shaped (kept (now rows) (now lengths) (now places) (now tags)) ⌝ }
+    requires { ⌜ Shaped (arrays rows lengths places tags) ⌝ }
     requires { ⌜ (m ≤ most-rules) × ((i : ℕ) → i < m → getD (now places) i 0 < getD (now lengths) i 0) ⌝ }
-    ensures { λ r. ⌜ Ran (run k (now (sentence .entry)) (length (now (out .entry))) (behavior (reverse (rulesDown (kept (now (rows .entry)) (now (lengths .entry)) (now (places .entry)) (now (tags .entry))) m)) (now (sentence .entry)))) (now (sentence .entry)) (now (out .entry)) (now (out .exit)) r ⌝ }
+    ensures { λ r. ⌜ Ran (run k (now (sentence .entry)) (length (now (out .entry))) (behavior (reverse (rulesDown (arrays (rows .entry) (lengths .entry) (places .entry) (tags .entry)) m)) (now (sentence .entry)))) (now (sentence .entry)) (now (out .entry)) (now (out .exit)) r ⌝ }
 {
     let admission = sentences::admit(sentence, k, out.len());
     if let Admission::Refused(refusal) = admission {
