@@ -37,12 +37,6 @@ drop-three bs at h =
     cc (two, three, drop-two bs at (omega arith), drop-cons bs (suc (suc at)) 0 inside)
 
 -- few states of few tags have few entries
-pub few-entries : (q k : ℕ) → q < most-states → k ≤ most-tags → q * (k + 1) < most-states * (most-tags + 1)
-few-entries q k h g =
-    let most : q * (k + 1) ≤ 255 * (most-tags + 1) =
-    mul-le-mul {n₂ = 255} {m₂ = most-tags + 1} (omega arith) (omega arith) in
-    omega arith
-
 pub all-entries : (s k : ℕ) → s ≤ most-states → k ≤ most-tags → s * (k + 1) ≤ most-states * (most-tags + 1)
 all-entries s k h g = mul-le-mul {n₂ = most-states} {m₂ = most-tags + 1} (omega arith) (omega arith)
 
@@ -247,6 +241,11 @@ row-next q k = rw (add-one q) (suc-mul q (k + 1))
 
 pub row-inside : (q s k n : ℕ) → q < s → s * (k + 1) ≤ n → q * (k + 1) + k < n
 row-inside q s k n h g = omega (arith, mul-le-mul {n₁ = q + 1} {m₁ = k + 1} {n₂ = s} {m₂ = k + 1} (omega arith) (omega arith), row-next q k)
+
+pub few-entries : (q k : ℕ) → q < most-states → k ≤ most-tags → q * (k + 1) < most-states * (most-tags + 1)
+few-entries q k h g =
+    let most = most-states * (most-tags + 1) in
+    omega (arith, row-inside q most-states k most h (all-entries most-states k (omega arith) g))
 
 pub row-kept :
     (k q i : ℕ) (x y bs : List ℕ) (r : Row)

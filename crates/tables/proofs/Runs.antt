@@ -136,129 +136,154 @@ below-at k [] i b h = absurd (omega arith)
 below-at k (a ∷ w) zero b h = b .0
 below-at k (a ∷ w) (suc i) b h = below-at k w i (b .1) (omega arith)
 
+-- what the run's loop keeps
+pub record Going (bs ix sentence out₀ out : List ℕ) (i at base : ℕ) : Type 0 where
+  pub ready : Ready bs ix sentence out₀
+  pub inside : i ≤ length sentence
+  pub long : length out ≡ length out₀
+  pub kept : drop (length sentence) out ≡ drop (length sentence) out₀
+  pub running : Running (ready .tags) (ready .usable .loaded .table) sentence out i at base
+
+pub going-start : (bs ix sentence out : List ℕ) → Ready bs ix sentence out → Going bs ix sentence out out 0 0 1
+going-start bs ix sentence out p =
+    record {
+      ready = p;
+      inside = omega arith;
+      long = refl;
+      kept = refl;
+      running = running-start (p .tags) (p .usable .loaded .table) sentence out (p .usable .valid);
+    }
+
 -- a turn of the run: the sentence's tag at i is read in the state
-module _
-    (bs ix sentence out₀ out : List ℕ) (i at base : ℕ)
-    (p : Ready bs ix sentence out₀)
-    (long : length out ≡ length out₀)
-    (r : Running (p .tags) (p .usable .loaded .table) sentence out i at base)
-  where
-    abbrev k : ℕ
-    k = p .tags
+module _ {bs ix sentence out₀ out : List ℕ} {i at base : ℕ} (g : Going bs ix sentence out₀ out i at base) where
+  abbrev p : Ready bs ix sentence out₀
+  p = g .ready
 
-    abbrev t : Table
-    t = p .usable .loaded .table
+  abbrev r : Running (g .ready .tags) (g .ready .usable .loaded .table) sentence out i at base
+  r = g .running
 
-    abbrev q : ℕ
-    q = r .state
+  abbrev k : ℕ
+  k = p .tags
 
-    q-below : q < p .usable .states
-    q-below = omega (arith, r .below, p .usable .loaded .states)
+  abbrev t : Table
+  t = p .usable .loaded .table
 
-    inside : q * (k + 1) + k < length ix
-    inside = row-inside q (p .usable .states) k (length ix) q-below (p .usable .index-room)
+  abbrev q : ℕ
+  q = r .state
 
-    module _ (h : i < length sentence) where
-      abbrev a : ℕ
-      a = getD sentence i 0
+  q-below : q < p .usable .states
+  q-below = omega (arith, r .below, p .usable .loaded .states)
 
-      a-below : a < k
-      a-below = below-at k sentence i (p .below) h
+  inside : q * (k + 1) + k < length ix
+  inside = row-inside q (p .usable .states) k (length ix) q-below (p .usable .index-room)
 
-      pub turn-inside : base + a < length ix
-      turn-inside = omega (arith, inside, a-below, r .based)
+  module _ (h : i < length sentence) where
+    abbrev a : ℕ
+    a = getD sentence i 0
 
-      abbrev v : Step
-      v = step t q a
+    a-below : a < k
+    a-below = below-at k sentence i (p .below) h
 
-      balance : length (v .output) + length (row t (v .next) .final) ≡ length (row t q .final) + 1
-      balance = p .usable .valid .balanced q a (r .below) a-below
+    pub turn-inside : base + a < length ix
+    turn-inside = omega (arith, inside, a-below, r .based)
 
-      module _ (e : ℕ) (entry : e ≡ getD ix (base + a) 0) where
-        pub turn-cell : Cell bs (v .next * (k + 1) + 1) (v .output) e
-        turn-cell =
-            let at-cell : base + a ≡ q * (k + 1) + 1 + a = omega (arith, r .based) in
-            rw (entry, at-cell) (p .usable .loaded .cells q q-below .steps a a-below)
+    abbrev v : Step
+    v = step t q a
 
-        pub turn-short : length (v .output) < 0xff
-        turn-short = omega (arith, balance, p .usable .valid .held q (r .below))
+    balance : length (v .output) + length (row t (v .next) .final) ≡ length (row t q .final) + 1
+    balance = p .usable .valid .balanced q a (r .below) a-below
 
-        pub turn-place : (countOf e ≡ 1 → ⊥) → placeOf e + 2 * countOf e ≤ length bs + 1
-        turn-place n = omega (arith, turn-cell .stands (λ o. n (omega (arith, turn-cell .count-is))) .inside, turn-cell .count-is)
+    module _ (e : ℕ) (entry : e ≡ getD ix (base + a) 0) where
+      pub turn-cell : Cell bs (v .next * (k + 1) + 1) (v .output) e
+      turn-cell =
+          let at-cell : base + a ≡ q * (k + 1) + 1 + a = omega (arith, r .based) in
+          rw (entry, at-cell) (p .usable .loaded .cells q q-below .steps a a-below)
 
-        pub turn-room : at < length out
-        turn-room = omega (arith, r .placed, p .room)
+      pub turn-short : length (v .output) < 0xff
+      turn-short = omega (arith, balance, p .usable .valid .held q (r .below))
 
-        pub turn-count : at + countOf e ≤ length out
-        turn-count = omega (arith, r .placed, p .room, balance, turn-cell .count-is)
+      pub turn-place : (countOf e ≡ 1 → ⊥) → placeOf e + 2 * countOf e ≤ length bs + 1
+      turn-place n = omega (arith, turn-cell .stands (λ o. n (omega (arith, turn-cell .count-is))) .inside, turn-cell .count-is)
 
-        module _ (out' : List ℕ) (at' : ℕ) (put : Put out out' at (v .output) at') where
-          pub turn-next : (base' : ℕ) → base' ≡ baseOf e → Running k t sentence out' (i + 1) at' base'
-          turn-next base' b =
-              let next = v .next in
-              let rest = drop (i + 1) sentence in
-              let tag : drop i sentence ≡ a ∷ rest = rw add-one (drop-cons sentence i 0 h) in
-              record {
-                state = next;
-                below = p .usable .valid .next-below q a (r .below) a-below;
-                based = omega (arith, b, turn-cell .base-is);
-                placed = omega (arith, put .end, r .placed, balance);
-                so-far =
-                    ap (λ (l : List ℕ). l ++ puts (shape t) next rest) (put .front)
-                    ∙ append-assoc (take at out) (v .output) (puts (shape t) next rest)
-                    ∙ ap (λ (l : List ℕ). take at out ++ puts (shape t) q l) (sym tag)
-                    ∙ r .so-far;
-              }
+      pub turn-room : at < length out
+      turn-room = omega (arith, r .placed, p .room, g .long)
 
-          pub turn-kept : drop (length sentence) out ≡ drop (length sentence) out₀ → drop (length sentence) out' ≡ drop (length sentence) out₀
-          turn-kept f = put .kept (length sentence) (omega (arith, r .placed)) (omega (arith, put .end, r .placed, balance)) ∙ f
+      pub turn-count : at + countOf e ≤ length out
+      turn-count = omega (arith, r .placed, p .room, g .long, balance, turn-cell .count-is)
 
-    -- the sentence is read: the final word
-    module _ (done : i ≡ length sentence) where
-      pub end-inside : base - 1 < length ix
-      end-inside = omega (arith, inside, r .based)
+      module _ (out' : List ℕ) (at' : ℕ) (put : Put out out' at (v .output) at') where
+        running-next : (base' : ℕ) → base' ≡ baseOf e → Running k t sentence out' (i + 1) at' base'
+        running-next base' b =
+            let next = v .next in
+            let rest = drop (i + 1) sentence in
+            let tag : drop i sentence ≡ a ∷ rest = rw add-one (drop-cons sentence i 0 h) in
+            record {
+              state = next;
+              below = p .usable .valid .next-below q a (r .below) a-below;
+              based = omega (arith, b, turn-cell .base-is);
+              placed = omega (arith, put .end, r .placed, balance);
+              so-far =
+                  ap (λ (l : List ℕ). l ++ puts (shape t) next rest) (put .front)
+                  ∙ append-assoc (take at out) (v .output) (puts (shape t) next rest)
+                  ∙ ap (λ (l : List ℕ). take at out ++ puts (shape t) q l) (sym tag)
+                  ∙ r .so-far;
+            }
 
-      pub end-base : 1 ≤ base
-      end-base = omega (arith, r .based)
+        pub turn-next : (base' : ℕ) → base' ≡ baseOf e → length out' ≡ length out → Going bs ix sentence out₀ out' (i + 1) at' base'
+        turn-next base' b same =
+            record {
+              ready = p;
+              inside = omega arith;
+              long = same ∙ g .long;
+              kept = put .kept (length sentence) (omega (arith, r .placed)) (omega (arith, put .end, r .placed, balance)) ∙ g .kept;
+              running = running-next base' b;
+            }
 
-      module _ (e : ℕ) (entry : e ≡ getD ix (base - 1) 0) where
-        abbrev w : List ℕ
-        w = row t q .final
+  -- the sentence is read: the final word
+  module _ (done : i ≡ length sentence) where
+    pub end-inside : base - 1 < length ix
+    end-inside = omega (arith, inside, r .based)
 
-        end-cell : FinalCell bs w e
-        end-cell =
-            let at-cell : base - 1 ≡ q * (k + 1) = omega (arith, r .based) in
-            rw (entry, at-cell) (p .usable .loaded .cells q q-below .final)
+    pub end-base : 1 ≤ base
+    end-base = omega (arith, r .based)
 
-        end-length : length w ≡ countOf e
-        end-length = omega (arith, end-cell .count-is, p .usable .valid .held q (r .below))
+    module _ (e : ℕ) (entry : e ≡ getD ix (base - 1) 0) where
+      abbrev w : List ℕ
+      w = row t q .final
 
-        pub end-place : placeOf e + 2 * countOf e ≤ length bs + 1
-        end-place = omega (arith, end-cell .stands .inside, end-length)
+      end-cell : FinalCell bs w e
+      end-cell =
+          let at-cell : base - 1 ≡ q * (k + 1) = omega (arith, r .based) in
+          rw (entry, at-cell) (p .usable .loaded .cells q q-below .final)
 
-        pub end-count : at + countOf e ≤ length out
-        end-count = omega (arith, r .placed, p .room, end-length)
+      end-length : length w ≡ countOf e
+      end-length = omega (arith, end-cell .count-is, p .usable .valid .held q (r .below))
 
-        pub end-made :
-            (place count : ℕ) (out' : List ℕ)
-            → place ≡ placeOf e
-            → count ≡ countOf e
-            → drop (length sentence) out ≡ drop (length sentence) out₀
-            → ((u : List ℕ) → length u ≡ count → Stands bs place u → out' ≡ paste out at u count)
-            → out' ≡ made (decode bs) sentence ++ drop (length sentence) out₀
-        end-made place count out' p≡ c≡ kept f =
-            let n : length w ≡ count = omega (arith, end-length) in
-            let whole : out' ≡ paste out at w count = f w n (rw p≡ (end-cell .stands)) in
-            let all : take count w ≡ w = ap (λ (m : ℕ). take m w) (sym n) ∙ take-length w in
-            let none : drop i sentence ≡ [] = rw done (drop-length sentence) in
-            let last : at + count ≡ length sentence = omega (arith, r .placed) in
-            let front : take at out ++ w ≡ puts (shape t) 0 sentence = rw none at (r .so-far) in
-            whole
-            ∙ ap (λ (l : List ℕ). (take at out ++ l) ++ drop (at + count) out) all
-            ∙ ap (λ (l : List ℕ). l ++ drop (at + count) out) front
-            ∙ ap (λ (m : ℕ). puts (shape t) 0 sentence ++ drop m out) last
-            ∙ ap (λ (l : List ℕ). puts (shape t) 0 sentence ++ l) kept
-            ∙ ap (λ (o : Outcome Decoded). made o sentence ++ drop (length sentence) out₀) (sym (p .usable .loaded .decodes))
+      pub end-place : placeOf e + 2 * countOf e ≤ length bs + 1
+      end-place = omega (arith, end-cell .stands .inside, end-length)
+
+      pub end-count : at + countOf e ≤ length out
+      end-count = omega (arith, r .placed, p .room, g .long, end-length)
+
+      pub end-made :
+          (place count : ℕ) (out' : List ℕ)
+          → place ≡ placeOf e
+          → count ≡ countOf e
+          → ((u : List ℕ) → length u ≡ count → Stands bs place u → out' ≡ paste out at u count)
+          → out' ≡ made (decode bs) sentence ++ drop (length sentence) out₀
+      end-made place count out' p≡ c≡ f =
+          let n : length w ≡ count = omega (arith, end-length) in
+          let whole : out' ≡ paste out at w count = f w n (rw p≡ (end-cell .stands)) in
+          let all : take count w ≡ w = ap (λ (m : ℕ). take m w) (sym n) ∙ take-length w in
+          let none : drop i sentence ≡ [] = rw done (drop-length sentence) in
+          let last : at + count ≡ length sentence = omega (arith, r .placed) in
+          let front : take at out ++ w ≡ puts (shape t) 0 sentence = rw none at (r .so-far) in
+          whole
+          ∙ ap (λ (l : List ℕ). (take at out ++ l) ++ drop (at + count) out) all
+          ∙ ap (λ (l : List ℕ). l ++ drop (at + count) out) front
+          ∙ ap (λ (m : ℕ). puts (shape t) 0 sentence ++ drop m out) last
+          ∙ ap (λ (l : List ℕ). puts (shape t) 0 sentence ++ l) (g .kept)
+          ∙ ap (λ (o : Outcome Decoded). made o sentence ++ drop (length sentence) out₀) (sym (p .usable .loaded .decodes))
 
 -- the outcomes of a run
 highest-below : (k : ℕ) (w : List ℕ) → highest w < k → Below k w

@@ -7,19 +7,15 @@ use Rattle.tables.proofs.base_at.Tie as tie
 use Rattle.tables.proofs.base_at.Reads as reads
 use Rattle.tables.proofs.base_at.Lts as lts
 
--- src/lib.rt:42:14
 add-result : tie.Need-add-result
 add-result c = search needs
 
--- src/lib.rt:42:5
 mul-result : tie.Need-mul-result
 mul-result c = omega (arith, few-entries (c .args .state) (c .args .k) (search needs) (search needs))
 
--- src/lib.rt:42:5
 add-result-2 : tie.Need-add-result-2
 add-result-2 c = omega (arith, few-entries (c .args .state) (c .args .k) (search needs) (search needs))
 
--- src/lib.rt:38:1
 returns : tie.Need-returns
 returns c = omega (arith, few-entries (c .args .state) (c .args .k) (search needs) (search needs))
 

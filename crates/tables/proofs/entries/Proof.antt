@@ -7,15 +7,12 @@ use Rattle.tables.proofs.entries.Tie as tie
 use Rattle.tables.proofs.entries.Reads as reads
 use Rattle.tables.proofs.entries.Lts as lts
 
--- src/lib.rt:440:10
 add-result : tie.Need-add-result
 add-result c = search needs
 
--- src/lib.rt:440:5
 mul-result : tie.Need-mul-result
 mul-result c = omega (arith, all-entries (c .args .s) (c .args .k) (search needs) (search needs))
 
--- src/lib.rt:436:1
 returns : tie.Need-returns
 returns c = omega (arith, all-entries (c .args .s) (c .args .k) (search needs) (search needs))
 

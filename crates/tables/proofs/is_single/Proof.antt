@@ -10,75 +10,57 @@ use Rattle.tables.proofs.is_single.Lts as lts
 use Rattle.tables.proofs.number_at.Reads as number-at-reads
 use Rattle.tables.proofs.wide.Reads as wide-reads
 
--- src/lib.rt:130:8
 sub-if1 : tie.Need-sub-if1
 sub-if1 c = search needs
 
--- src/lib.rt:131:9
 returns : tie.Need-returns
 returns c = search needs
 
--- src/lib.rt:133:8
 shared-slice-read-if2 : tie.Need-shared-slice-read-if2
 shared-slice-read-if2 c = search needs
 
--- src/lib.rt:134:9
 returns-2 : tie.Need-returns-2
 returns-2 c = search needs
 
--- src/lib.rt:136:14
 add-if3 : tie.Need-add-if3
 add-if3 c = search needs
 
--- src/lib.rt:136:8
 shared-slice-read-if3 : tie.Need-shared-slice-read-if3
 shared-slice-read-if3 c = search needs
 
--- src/lib.rt:137:9
 returns-3 : tie.Need-returns-3
 returns-3 c = search needs
 
--- src/lib.rt:139:14
 add-if4 : tie.Need-add-if4
 add-if4 c = search needs
 
--- src/lib.rt:139:8
 shared-slice-read-if4 : tie.Need-shared-slice-read-if4
 shared-slice-read-if4 c = search needs
 
--- src/lib.rt:140:9
 returns-4 : tie.Need-returns-4
 returns-4 c = search needs
 
--- src/lib.rt:142:30
 add-number-at : tie.Need-add-number-at
 add-number-at c = search needs
 
--- src/lib.rt:142:13
 number-at-requires : tie.Need-number-at-requires
 number-at-requires c κs = search needs
 
--- src/lib.rt:143:9
 returns-5 : tie.Need-returns-5
 returns-5 c = search needs
 
--- src/lib.rt:145:24
 add-wide : tie.Need-add-wide
 add-wide c = search needs
 
--- src/lib.rt:145:18
 shared-slice-read-wide : tie.Need-shared-slice-read-wide
 shared-slice-read-wide c = search needs
 
--- src/lib.rt:145:13
 wide-requires : tie.Need-wide-requires
 wide-requires c κs = search needs
 
--- src/lib.rt:146:9
 returns-6 : tie.Need-returns-6
 returns-6 c = search needs
 
--- src/lib.rt:126:1
 returns-7 : tie.Need-returns-7
 returns-7 c =
     let wide = c .before in

@@ -18,34 +18,27 @@ Inv-loop index cell k a₀ a = (a ≤ k) × ((b : ℕ) → b < a → Level index
 abbrev μ-loop : tie.MeasureT-loop
 μ-loop index cell k a₀ a = k - a
 
--- src/lib.rt:213:5
 loop-holds : tie.Need-loop-holds Inv-loop μ-loop
 loop-holds c = search needs
 
--- src/lib.rt:214:13
 level-step-requires : tie.Need-level-step-requires Inv-loop μ-loop
 level-step-requires c κs = (omega arith, c .before .before .before .pre .1 (c .before .loop .a) (omega arith))
 
--- src/lib.rt:215:13
 returns : tie.Need-returns Inv-loop μ-loop
 returns c all =
     let call = c .before in
     let a = call .before .before .loop .a in
     decided-false (call .level-step .result) _ (call .level-step .ensures) (not-true (call .level-step .result) (c .if1 .taken)) (all a (omega arith))
 
--- src/lib.rt:217:9
 add-a : tie.Need-add-a Inv-loop μ-loop
 add-a c = search needs
 
--- src/lib.rt:213:5
 loop-less : tie.Need-loop-less Inv-loop μ-loop
 loop-less c = search needs
 
--- src/lib.rt:213:5
 loop-again : tie.Need-loop-again Inv-loop μ-loop
 loop-again c = (omega arith, below-more _ _ (c .before .before .before .loop .inv .1) (decided-true (c .before .level-step .result) _ (c .before .level-step .ensures) (not-false (c .before .level-step .result) (c .if1 .left))))
 
--- src/lib.rt:208:1
 returns-2 : tie.Need-returns-2 Inv-loop μ-loop
 returns-2 c a h = c .before .loop .inv .1 a (omega arith)
 

@@ -23,11 +23,9 @@ Inv-loop index k s q₀ cell₀ q cell =
 abbrev μ-loop : tie.MeasureT-loop
 μ-loop index k s q₀ cell₀ q cell = s - q
 
--- src/lib.rt:228:5
 loop-holds : tie.Need-loop-holds Inv-loop μ-loop
 loop-holds c = (omega arith, omega (arith, zero-mul (c .before .args .k + 1)), λ p h. absurd (omega arith))
 
--- src/lib.rt:229:13
 level-row-requires : tie.Need-level-row-requires Inv-loop μ-loop
 level-row-requires c κs =
     let b = c .before in
@@ -37,7 +35,6 @@ level-row-requires c κs =
       λ i h. rw (b .loop .inv .1) (start .pre .1 (b .loop .q) i (omega arith) h),
     )
 
--- src/lib.rt:230:13
 returns : tie.Need-returns Inv-loop μ-loop
 returns c all =
     let call = c .before in
@@ -46,29 +43,24 @@ returns c all =
     decided-false (call .level-row .result) _ (call .level-row .ensures) (not-true (call .level-row .result) (c .if1 .taken))
     (λ i h. rw (b .loop .inv .1) (all (b .loop .q) i (omega arith) h))
 
--- src/lib.rt:232:17
 add-cell : tie.Need-add-cell Inv-loop μ-loop
 add-cell c =
     let b = c .before .before .before in
     let a = b .before .before .args in
     omega (arith, row-inside (b .loop .q) (a .s) (a .k) (length (a .index .now)) (omega arith) (omega arith))
 
--- src/lib.rt:232:9
 add-cell-2 : tie.Need-add-cell-2 Inv-loop μ-loop
 add-cell-2 c =
     let b = c .before .before .before in
     let a = b .before .before .args in
     omega (arith, row-inside (b .loop .q) (a .s) (a .k) (length (a .index .now)) (omega arith) (omega arith))
 
--- src/lib.rt:233:9
 add-q : tie.Need-add-q Inv-loop μ-loop
 add-q c = search needs
 
--- src/lib.rt:228:5
 loop-less : tie.Need-loop-less Inv-loop μ-loop
 loop-less c = search needs
 
--- src/lib.rt:228:5
 loop-again : tie.Need-loop-again Inv-loop μ-loop
 loop-again c =
     let call = c .before in
@@ -80,7 +72,6 @@ loop-again c =
       below-more _ _ (b .loop .inv .2) (rw (b .loop .inv .1) at row),
     )
 
--- src/lib.rt:222:1
 returns-2 : tie.Need-returns-2 Inv-loop μ-loop
 returns-2 c q a h g = c .before .loop .inv .2 q (omega arith) a g
 

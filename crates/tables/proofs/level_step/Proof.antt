@@ -8,74 +8,57 @@ use Rattle.tables.proofs.level_step.Lts as lts
 use Rattle.tables.proofs.base_of.Reads as base-of-reads
 use Rattle.tables.proofs.count_of.Reads as count-of-reads
 
--- src/lib.rt:197:19
 add-e : tie.Need-add-e
 add-e c = search needs
 
--- src/lib.rt:197:19
 add-e-2 : tie.Need-add-e-2
 add-e-2 c = search needs
 
--- src/lib.rt:197:13
 mul-e : tie.Need-mul-e
 mul-e c = search needs
 
--- src/lib.rt:197:13
 shared-slice-read-e : tie.Need-shared-slice-read-e
 shared-slice-read-e c = search needs
 
--- src/lib.rt:198:9
 base-of-requires : tie.Need-base-of-requires
 base-of-requires c κs = search needs
 
--- src/lib.rt:199:9
 count-of-requires : tie.Need-count-of-requires
 count-of-requires c κs = search needs
 
--- src/lib.rt:200:32
 sub-count-of : tie.Need-sub-count-of
 sub-count-of c = search needs
 
--- src/lib.rt:200:26
 mul-count-of : tie.Need-mul-count-of
 mul-count-of c = search needs
 
--- src/lib.rt:200:26
 shared-slice-read-count-of : tie.Need-shared-slice-read-count-of
 shared-slice-read-count-of c = search needs
 
--- src/lib.rt:200:9
 count-of-requires-2 : tie.Need-count-of-requires-2
 count-of-requires-2 c κs = search needs
 
--- src/lib.rt:201:25
 mul-count-of-2 : tie.Need-mul-count-of-2
 mul-count-of-2 c = search needs
 
--- src/lib.rt:201:25
 shared-slice-read-count-of-2 : tie.Need-shared-slice-read-count-of-2
 shared-slice-read-count-of-2 c = search needs
 
--- src/lib.rt:201:9
 count-of-requires-3 : tie.Need-count-of-requires-3
 count-of-requires-3 c κs = search needs
 
--- src/lib.rt:202:8
 add-if1 : tie.Need-add-if1
 add-if1 c = search needs
 
--- src/lib.rt:202:23
 add-if1-2 : tie.Need-add-if1-2
 add-if1-2 c = search needs
 
--- src/lib.rt:203:9
 returns : tie.Need-returns
 returns c level =
     let two = c .before .before .before in
     let next = rw (two .before .before .before .base-of .ensures) at (two .count-of2 .ensures .0) in
     c .if1 .taken (omega (arith, next))
 
--- src/lib.rt:193:1
 returns-2 : tie.Need-returns-2
 returns-2 c =
     let two = c .before .before .before in

@@ -9,23 +9,18 @@ use Rattle.tables.proofs.load.Lts as lts
 use Rattle.tables.proofs.load_end.Reads as load-end-reads
 use Rattle.tables.proofs.read_rows.Reads as read-rows-reads
 
--- src/lib.rt:260:9
 read-rows-requires : tie.Need-read-rows-requires
 read-rows-requires c κs = search needs
 
--- src/lib.rt:261:21
 enum-known-got : tie.Need-enum-known-got
 enum-known-got c = search needs
 
--- src/lib.rt:262:9
 enum-told : tie.Need-enum-told
 enum-told c = search needs
 
--- src/lib.rt:262:9
 same-length : tie.Need-same-length
 same-length c = search needs
 
--- src/lib.rt:262:9
 returns : tie.Need-returns
 returns c =
     let call = c .before .before .before .before in
@@ -33,7 +28,6 @@ returns c =
     let a = start .args in
     load-not (a .k) (a .s) (a .table .now) (call .read-rows .last .1 .1 .1 .0) (call .read-rows .result) (start .pre .0) (call .read-rows .ensures) (c .enum-told .given .1)
 
--- src/lib.rt:264:5
 load-end-requires : tie.Need-load-end-requires
 load-end-requires c κs =
     let call = c .before .before .before .before .before .before in
@@ -41,11 +35,9 @@ load-end-requires c κs =
     let a = start .args in
     load-rows (a .k) (a .s) (a .table .now) (call .read-rows .last .1 .1 .1 .0) (call .read-rows .result) (start .pre .0) (call .read-rows .ensures) (c .before .before .got .given .0 .0) (c .before .before .got .given .1) (omega arith)
 
--- src/lib.rt:256:1
 same-length-2 : tie.Need-same-length-2
 same-length-2 c = search needs
 
--- src/lib.rt:256:1
 returns-2 : tie.Need-returns-2
 returns-2 c = search needs
 

@@ -10,11 +10,9 @@ use Rattle.tables.proofs.load_end.Lts as lts
 use Rattle.tables.proofs.count_of.Reads as count-of-reads
 use Rattle.tables.proofs.level_rows.Reads as level-rows-reads
 
--- src/lib.rt:243:8
 sub-if1 : tie.Need-sub-if1
 sub-if1 c = search needs
 
--- src/lib.rt:244:9
 returns : tie.Need-returns
 returns c =
     let known = c .before .before in
@@ -22,13 +20,11 @@ returns c =
     let a = start .args in
     let bs = a .table .now in
     let bytes = below-of 0x100 bs (λ i. omega (arith, known .shared-slice-known .given i)) in
-    load-longer (a .k) (a .s) bs (a .index .now) (a .end) (start .pre .head) bytes (start .pre .rows) (c .if1 .taken)
+    load-longer (a .k) (a .s) bs (a .index .now) (a .end) (start .pre .head) bytes (start .pre .rows) (omega arith)
 
--- src/lib.rt:246:8
 shared-slice-read-if2 : tie.Need-shared-slice-read-if2
 shared-slice-read-if2 c = search needs
 
--- src/lib.rt:247:9
 returns-2 : tie.Need-returns-2
 returns-2 c =
     let known = c .before .before .before .before in
@@ -38,15 +34,12 @@ returns-2 c =
     let bytes = below-of 0x100 bs (λ i. omega (arith, known .shared-slice-known .given i)) in
     load-other (a .k) (a .s) bs (a .index .now) (a .end) (start .pre .head) bytes (start .pre .rows) (search needs) (c .if2 .taken)
 
--- src/lib.rt:249:17
 shared-slice-read-count-of : tie.Need-shared-slice-read-count-of
 shared-slice-read-count-of c = search needs
 
--- src/lib.rt:249:8
 count-of-requires : tie.Need-count-of-requires
 count-of-requires c κs = search needs
 
--- src/lib.rt:250:9
 returns-3 : tie.Need-returns-3
 returns-3 c =
     let known = c .before .before .before .before .before .before .before in
@@ -56,7 +49,6 @@ returns-3 c =
     let bytes = below-of 0x100 bs (λ i. omega (arith, known .shared-slice-known .given i)) in
     load-start (a .k) (a .s) bs (a .index .now) (a .end) (start .pre .head) bytes (start .pre .rows) (search needs) (search needs) (λ e. c .if3 .taken (omega arith))
 
--- src/lib.rt:252:5
 level-rows-requires : tie.Need-level-rows-requires
 level-rows-requires c κs =
     let known = c .before .before .before .before .before .before .before in
@@ -66,7 +58,6 @@ level-rows-requires c κs =
     let bytes = below-of 0x100 bs (λ i. omega (arith, known .shared-slice-known .given i)) in
     (search needs, load-linked (a .k) (a .s) bs (a .index .now) (a .end) (start .pre .head) bytes (start .pre .rows) (start .pre .room))
 
--- src/lib.rt:239:1
 returns-4 : tie.Need-returns-4
 returns-4 c =
     let known = c .before .before .before .before .before .before .before .before in

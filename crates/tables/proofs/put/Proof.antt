@@ -12,27 +12,21 @@ use Rattle.tables.proofs.place_of.Reads as place-of-reads
 use Rattle.tables.proofs.put_word.Reads as put-word-reads
 use Rattle.tables.proofs.tag_of.Reads as tag-of-reads
 
--- src/lib.rt:381:9
 count-of-requires : tie.Need-count-of-requires
 count-of-requires c κs = search needs
 
--- src/lib.rt:382:15
 tag-of-requires : tie.Need-tag-of-requires
 tag-of-requires c κs = search needs
 
--- src/lib.rt:382:5
 slice-write-out : tie.Need-slice-write-out
 slice-write-out c = search needs
 
--- src/lib.rt:384:16
 add-result : tie.Need-add-result
 add-result c = search needs
 
--- src/lib.rt:384:9
 same-length : tie.Need-same-length
 same-length c = search needs
 
--- src/lib.rt:384:9
 returns : tie.Need-returns
 returns c base w cell short =
     let tag = c .before in
@@ -41,11 +35,9 @@ returns c base w cell short =
     rw (tag .tag-of .ensures)
     (put-few (a .out .now) (a .at) (omega arith) (a .table .now) w base (a .e) cell short (count .count-of .result) (search needs) (omega arith))
 
--- src/lib.rt:386:21
 place-of-requires : tie.Need-place-of-requires
 place-of-requires c κs = search needs
 
--- src/lib.rt:386:5
 put-word-requires : tie.Need-put-word-requires
 put-word-requires c κs =
     let place = c .before in
@@ -53,18 +45,15 @@ put-word-requires c κs =
     let start = count .before .before .before in
     (omega (arith, start .pre .0 (λ e. omega (arith, place .before .if1 .left)), place .place-of .ensures, count .count-of .ensures), simp length-set (omega arith))
 
--- src/lib.rt:387:5
 add-result-2 : tie.Need-add-result-2
 add-result-2 c = search needs
 
--- src/lib.rt:377:1
 same-length-2 : tie.Need-same-length-2
 same-length-2 c =
     let tag = c .before .before .before .before .before .before in
     let a = tag .before .before .before .before .args in
     omega (arith, length-set (a .out .now) (a .at) (tag .tag-of .result))
 
--- src/lib.rt:377:1
 returns-2 : tie.Need-returns-2
 returns-2 c base w cell short =
     let call = c .before .before in

@@ -22,39 +22,30 @@ Inv-loop table place count out₀ at j₀ out j =
 abbrev μ-loop : tie.MeasureT-loop
 μ-loop table place count out₀ at j₀ out j = count - j
 
--- src/lib.rt:305:5
 loop-holds : tie.Need-loop-holds Inv-loop μ-loop
 loop-holds c = (omega arith, refl, λ w h st. paste-zero (c .args .out .now) (c .args .at) w)
 
--- src/lib.rt:306:37
 mul-out : tie.Need-mul-out Inv-loop μ-loop
 mul-out c = search needs
 
--- src/lib.rt:306:29
 add-out : tie.Need-add-out Inv-loop μ-loop
 add-out c = search needs
 
--- src/lib.rt:306:23
 shared-slice-read-out : tie.Need-shared-slice-read-out Inv-loop μ-loop
 shared-slice-read-out c = search needs
 
--- src/lib.rt:306:13
 add-out-2 : tie.Need-add-out-2 Inv-loop μ-loop
 add-out-2 c = search needs
 
--- src/lib.rt:306:9
 slice-write-out : tie.Need-slice-write-out Inv-loop μ-loop
 slice-write-out c = omega arith
 
--- src/lib.rt:307:9
 add-j : tie.Need-add-j Inv-loop μ-loop
 add-j c = search needs
 
--- src/lib.rt:305:5
 loop-less : tie.Need-loop-less Inv-loop μ-loop
 loop-less c = search needs
 
--- src/lib.rt:305:5
 loop-again : tie.Need-loop-again Inv-loop μ-loop
 loop-again c =
     let b = c .before .before in
@@ -66,11 +57,9 @@ loop-again c =
           (b .loop .inv .2 w h st),
     )
 
--- src/lib.rt:300:1
 same-length : tie.Need-same-length Inv-loop μ-loop
 same-length c = search needs
 
--- src/lib.rt:300:1
 returns : tie.Need-returns Inv-loop μ-loop
 returns c w h st =
     let e : c .before .loop .j ≡ c .before .before .args .count = omega arith in

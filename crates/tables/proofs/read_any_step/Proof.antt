@@ -18,69 +18,54 @@ use Rattle.tables.proofs.word_entry.Reads as word-entry-reads
 then : (n : ℕ) → n + 1 + 1 ≡ n + 2
 then n = omega arith
 
--- src/lib.rt:95:8
 sub-if1 : tie.Need-sub-if1
 sub-if1 c = search needs
 
--- src/lib.rt:96:9
 returns : tie.Need-returns
 returns c =
     let a = c .before .before .before .args in
     (step-short (a .k) (a .s) (a .table .now) (a .at) (omega arith), λ i h. refl)
 
--- src/lib.rt:98:8
 shared-slice-read-if2 : tie.Need-shared-slice-read-if2
 shared-slice-read-if2 c = search needs
 
--- src/lib.rt:99:9
 returns-2 : tie.Need-returns-2
 returns-2 c =
     let a = c .before .before .before .before .before .args in
     (step-other (a .k) (a .s) (a .table .now) (a .at) (omega arith) (c .if2 .taken), λ i h. refl)
 
--- src/lib.rt:101:33
 add-number-at : tie.Need-add-number-at
 add-number-at c = search needs
 
--- src/lib.rt:101:9
 number-at-requires : tie.Need-number-at-requires
 number-at-requires c κs = search needs
 
--- src/lib.rt:103:9
 returns-3 : tie.Need-returns-3
 returns-3 c =
     let a = c .before .before .before .before .before .before .before .args in
     (step-high (a .k) (a .s) (a .table .now) (a .at) (omega arith) (search needs) (omega (arith, rw (then (a .at)) at (c .before .number-at .ensures .0))), λ i h. refl)
 
--- src/lib.rt:105:16
 add-from : tie.Need-add-from
 add-from c = search needs
 
--- src/lib.rt:106:9
 word-end-requires : tie.Need-word-end-requires
 word-end-requires c κs = search needs
 
--- src/lib.rt:107:48
 base-at-requires : tie.Need-base-at-requires
 base-at-requires c κs = search needs
 
--- src/lib.rt:107:19
 word-entry-requires : tie.Need-word-entry-requires
 word-entry-requires c κs = search needs
 
--- src/lib.rt:107:5
 mul-index : tie.Need-mul-index
 mul-index c = search needs
 
--- src/lib.rt:107:5
 slice-write-index : tie.Need-slice-write-index
 slice-write-index c = search needs
 
--- src/lib.rt:90:1
 same-length : tie.Need-same-length
 same-length c = search needs
 
--- src/lib.rt:90:1
 returns-4 : tie.Need-returns-4
 returns-4 c =
     let a = c .before .before .before .before .before .before .before .before .before .before .args in

@@ -10,58 +10,46 @@ use Rattle.tables.proofs.read_head.Lts as lts
 use Rattle.tables.proofs.number_at.Reads as number-at-reads
 use Rattle.tables.proofs.wide.Reads as wide-reads
 
--- src/lib.rt:252:9
 returns : tie.Need-returns
 returns c =
     (head-short (c .before .before .args .table .now) (omega arith), refl)
 
--- src/lib.rt:255:9
 returns-2 : tie.Need-returns-2
 returns-2 c =
     (head-long (c .before .before .before .args .table .now) (below-of 0x100 (c .before .before .before .args .table .now) (λ i. omega (arith, c .before .before .shared-slice-known .given i))) (omega arith), refl)
 
--- src/lib.rt:257:8
 shared-slice-read-if3 : tie.Need-shared-slice-read-if3
 shared-slice-read-if3 c = search needs
 
--- src/lib.rt:258:9
 returns-3 : tie.Need-returns-3
 returns-3 c =
     (head-command (c .before .before .before .before .before .args .table .now) (omega arith) (c .if3 .taken), refl)
 
--- src/lib.rt:260:18
 shared-slice-read-wide : tie.Need-shared-slice-read-wide
 shared-slice-read-wide c = search needs
 
--- src/lib.rt:260:9
 wide-requires : tie.Need-wide-requires
 wide-requires c κs = search needs
 
--- src/lib.rt:261:9
 number-at-requires : tie.Need-number-at-requires
 number-at-requires c κs = search needs
 
--- src/lib.rt:263:9
 returns-4 : tie.Need-returns-4
 returns-4 c =
     (head-few-tags (c .before .before .before .before .before .before .before .before .before .args .table .now) (omega arith) (omega arith), refl)
 
--- src/lib.rt:266:9
 returns-5 : tie.Need-returns-5
 returns-5 c =
     (head-many-tags (c .before .before .before .before .before .before .before .before .before .before .args .table .now) (omega arith) (omega arith), refl)
 
--- src/lib.rt:269:9
 returns-6 : tie.Need-returns-6
 returns-6 c =
     (head-no-states (c .before .before .before .before .before .before .before .before .before .before .before .args .table .now) (omega arith) (omega arith), refl)
 
--- src/lib.rt:272:9
 returns-7 : tie.Need-returns-7
 returns-7 c =
     (head-many-states (c .before .before .before .before .before .before .before .before .before .before .before .before .args .table .now) (omega arith) (omega arith), refl)
 
--- src/lib.rt:248:1
 returns-8 : tie.Need-returns-8
 returns-8 c =
     head-read (c .before .before .before .before .before .before .before .before .before .before .before .before .args .table .now) (omega arith) _ _ (omega arith) (search needs) (search needs) (search needs) (omega arith) (omega arith) (omega arith) (omega arith)

@@ -16,97 +16,77 @@ use Rattle.tables.proofs.wide.Reads as wide-reads
 use Rattle.tables.proofs.word_end.Reads as word-end-reads
 use Rattle.tables.proofs.entry.Reads as entry-reads
 
--- src/lib.rt:135:8
 sub-if1 : tie.Need-sub-if1
 sub-if1 c = search needs
 
--- src/lib.rt:136:9
 returns : tie.Need-returns
 returns c =
     let a = c .before .before .before .args in
     (row-short (a .k) (a .s) (a .table .now) (a .at) (omega arith), λ i h. refl)
 
--- src/lib.rt:138:8
 shared-slice-read-if2 : tie.Need-shared-slice-read-if2
 shared-slice-read-if2 c = search needs
 
--- src/lib.rt:139:9
 returns-2 : tie.Need-returns-2
 returns-2 c =
     let a = c .before .before .before .before .before .args in
     (row-other (a .k) (a .s) (a .table .now) (a .at) (omega arith) (c .if2 .taken), λ i h. refl)
 
--- src/lib.rt:141:27
 add-wide : tie.Need-add-wide
 add-wide c = search needs
 
--- src/lib.rt:141:21
 shared-slice-read-wide : tie.Need-shared-slice-read-wide
 shared-slice-read-wide c = search needs
 
--- src/lib.rt:141:9
 wide-requires : tie.Need-wide-requires
 wide-requires c κs = search needs
 
--- src/lib.rt:143:9
 returns-3 : tie.Need-returns-3
 returns-3 c =
     let a = c .before .before .before .before .before .before .before .before .args in
     (row-held (a .k) (a .s) (a .table .now) (a .at) (omega arith) (search needs) (omega arith), λ i h. refl)
 
--- src/lib.rt:145:16
 add-from : tie.Need-add-from
 add-from c = search needs
 
--- src/lib.rt:146:9
 word-end-requires : tie.Need-word-end-requires
 word-end-requires c κs = search needs
 
--- src/lib.rt:147:22
 mul-if4 : tie.Need-mul-if4
 mul-if4 c = search needs
 
--- src/lib.rt:147:15
 add-if4 : tie.Need-add-if4
 add-if4 c = search needs
 
--- src/lib.rt:148:9
 returns-4 : tie.Need-returns-4
 returns-4 c =
     let a = c .before .before .before .before .before .before .before .before .before .before .args in
     (row-count (a .k) (a .s) (a .table .now) (a .at) (omega arith) (search needs) (omega arith) (λ e. c .if4 .taken (omega arith)), λ i h. refl)
 
--- src/lib.rt:150:19
 add-entry : tie.Need-add-entry
 add-entry c = search needs
 
 entry-requires : tie.Need-entry-requires
 entry-requires c κs = search needs
 
--- src/lib.rt:150:5
 mul-index : tie.Need-mul-index
 mul-index c = search needs
 
--- src/lib.rt:150:5
 slice-write-index : tie.Need-slice-write-index
 slice-write-index c = search needs
 
--- src/lib.rt:151:41
 add-read-steps : tie.Need-add-read-steps
 add-read-steps c = search needs
 
--- src/lib.rt:151:5
 read-steps-requires : tie.Need-read-steps-requires
 read-steps-requires c κs = (search needs, simp length-set (omega arith))
 
--- src/lib.rt:130:1
 same-length : tie.Need-same-length
 same-length c =
     let made = c .before .before .before .before in
     let a = made .before .before .before .before .before .before .before .before .before .before .before .args in
     omega (arith, length-set (a .index .now) (a .cell) (made .entry .result))
 
--- src/lib.rt:130:1
 returns-5 : tie.Need-returns-5
 returns-5 c =
     let call = c .before .before in

@@ -27,32 +27,26 @@ Inv-loop table k s index₀ to₀ q₀ cell₀ index to q cell =
 abbrev μ-loop : tie.MeasureT-loop
 μ-loop table k s index₀ to₀ q₀ cell₀ index to q cell = s - q
 
--- src/lib.rt:162:5
 loop-holds : tie.Need-loop-holds Inv-loop μ-loop
 loop-holds c =
     let a = c .before .before .args in
     (omega arith, omega (arith, zero-mul (a .k + 1)), refl, progress-none (readRow (a .k) (a .s)) rowBytes no-row (a .table .now) 4 _ (search needs))
 
--- src/lib.rt:163:13
 read-row-requires : tie.Need-read-row-requires Inv-loop μ-loop
 read-row-requires c κs =
     let b = c .before .before in
     let a = b .before .before .before .args in
     (search needs, omega (arith, row-inside (b .loop .q) (a .s) (a .k) (length (b .loop .index)) (omega arith) (omega arith)))
 
--- src/lib.rt:164:25
 enum-known-got : tie.Need-enum-known-got Inv-loop μ-loop
 enum-known-got c = search needs
 
--- src/lib.rt:165:13
 enum-told : tie.Need-enum-told Inv-loop μ-loop
 enum-told c = search needs
 
--- src/lib.rt:165:13
 same-length : tie.Need-same-length Inv-loop μ-loop
 same-length c = search needs
 
--- src/lib.rt:165:13
 returns : tie.Need-returns Inv-loop μ-loop
 returns c =
     let call = c .before .before .before .before in
@@ -75,26 +69,21 @@ returns c =
     (c .enum-told .given .1)
     (omega arith)
 
--- src/lib.rt:168:17
 add-cell : tie.Need-add-cell Inv-loop μ-loop
 add-cell c = search needs
 
--- src/lib.rt:168:9
 add-cell-2 : tie.Need-add-cell-2 Inv-loop μ-loop
 add-cell-2 c =
     let b = c .before .before .before .before .before .before .before .before in
     let a = b .before .before .before .args in
     omega (arith, row-inside (b .loop .q) (a .s) (a .k) (length (b .loop .index)) (omega arith) (omega arith))
 
--- src/lib.rt:169:9
 add-q : tie.Need-add-q Inv-loop μ-loop
 add-q c = search needs
 
--- src/lib.rt:162:5
 loop-less : tie.Need-loop-less Inv-loop μ-loop
 loop-less c = search needs
 
--- src/lib.rt:162:5
 loop-again : tie.Need-loop-again Inv-loop μ-loop
 loop-again c =
     let call = c .before .before .before .before .before in
@@ -123,11 +112,9 @@ loop-again c =
           (λ r g. rw (b .loop .inv .1) at g),
     )
 
--- src/lib.rt:155:1
 same-length-2 : tie.Need-same-length-2 Inv-loop μ-loop
 same-length-2 c = search needs
 
--- src/lib.rt:155:1
 returns-2 : tie.Need-returns-2 Inv-loop μ-loop
 returns-2 c =
     let a = c .before .before .before .before .args in

@@ -16,27 +16,21 @@ use Rattle.tables.proofs.number_at.Reads as number-at-reads
 use Rattle.tables.proofs.read_any_step.Reads as read-any-step-reads
 use Rattle.tables.proofs.wide.Reads as wide-reads
 
--- src/lib.rt:157:9
 is-single-requires : tie.Need-is-single-requires
 is-single-requires c κs = search needs
 
--- src/lib.rt:158:9
 read-any-step-requires : tie.Need-read-any-step-requires
 read-any-step-requires c κs = search needs
 
--- src/lib.rt:158:9
 same-length : tie.Need-same-length
 same-length c = search needs
 
--- src/lib.rt:158:9
 returns : tie.Need-returns
 returns c = search needs
 
--- src/lib.rt:160:33
 add-number-at : tie.Need-add-number-at
 add-number-at c = search needs
 
--- src/lib.rt:160:9
 number-at-requires : tie.Need-number-at-requires
 number-at-requires c κs =
     let else = c in
@@ -46,7 +40,6 @@ number-at-requires c κs =
     let one = is-single-true (a .table .now) (a .at) (a .k) (a .s) (call .is-single .result) (call .is-single .ensures) (not-false (call .is-single .result) (else .if1 .left)) in
     omega (arith, one .long)
 
--- src/lib.rt:161:25
 base-at-requires : tie.Need-base-at-requires
 base-at-requires c κs =
     let else = c .before in
@@ -58,11 +51,9 @@ base-at-requires c κs =
     let next = rw then at (c .number-at .ensures .0) in
     (omega (arith, next, one .next-below, start .pre .0 .few-states), start .pre .0 .few-tags)
 
--- src/lib.rt:161:57
 add-wide : tie.Need-add-wide
 add-wide c = search needs
 
--- src/lib.rt:161:51
 shared-slice-read-wide : tie.Need-shared-slice-read-wide
 shared-slice-read-wide c =
     let else = c .before .before .before in
@@ -72,31 +63,24 @@ shared-slice-read-wide c =
     let one = is-single-true (a .table .now) (a .at) (a .k) (a .s) (call .is-single .result) (call .is-single .ensures) (not-false (call .is-single .result) (else .if1 .left)) in
     omega (arith, one .long)
 
--- src/lib.rt:161:46
 wide-requires : tie.Need-wide-requires
 wide-requires c κs = search needs
 
--- src/lib.rt:161:19
 entry-requires : tie.Need-entry-requires
 entry-requires c κs = search needs
 
--- src/lib.rt:161:5
 mul-index : tie.Need-mul-index
 mul-index c = search needs
 
--- src/lib.rt:161:5
 slice-write-index : tie.Need-slice-write-index
 slice-write-index c = search needs
 
--- src/lib.rt:162:17
 add-t12 : tie.Need-add-t12
 add-t12 c = search needs
 
--- src/lib.rt:152:1
 same-length-2 : tie.Need-same-length-2
 same-length-2 c = search needs
 
--- src/lib.rt:152:1
 returns-2 : tie.Need-returns-2
 returns-2 c =
     let else = c .before .before .before .before .before in

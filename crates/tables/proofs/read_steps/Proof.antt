@@ -26,33 +26,26 @@ Inv-loop table at k s index₀ first to₀ a₀ index to a =
 abbrev μ-loop : tie.MeasureT-loop
 μ-loop table at k s index₀ first to₀ a₀ index to a = k - a
 
--- src/lib.rt:119:5
 loop-holds : tie.Need-loop-holds Inv-loop μ-loop
 loop-holds c =
     let a = c .before .before .args in
     (omega arith, refl, progress-none (readStep (a .k) (a .s)) stepBytes no-step (a .table .now) (a .at) _ (search needs), λ i h. refl)
 
--- src/lib.rt:120:53
 add-read-step : tie.Need-add-read-step Inv-loop μ-loop
 add-read-step c = search needs
 
--- src/lib.rt:120:13
 read-step-requires : tie.Need-read-step-requires Inv-loop μ-loop
 read-step-requires c κs = search needs
 
--- src/lib.rt:121:25
 enum-known-got : tie.Need-enum-known-got Inv-loop μ-loop
 enum-known-got c = search needs
 
--- src/lib.rt:122:13
 enum-told : tie.Need-enum-told Inv-loop μ-loop
 enum-told c = search needs
 
--- src/lib.rt:122:13
 same-length : tie.Need-same-length Inv-loop μ-loop
 same-length c = search needs
 
--- src/lib.rt:122:13
 returns : tie.Need-returns Inv-loop μ-loop
 returns c =
     let call = c .before .before .before .before in
@@ -77,15 +70,12 @@ returns c =
       kept-then (a .first) (a .first + b .loop .a) (a .index .now) x y (omega arith) (b .loop .inv .3) (call .read-step .ensures .1),
     )
 
--- src/lib.rt:125:9
 add-a : tie.Need-add-a Inv-loop μ-loop
 add-a c = search needs
 
--- src/lib.rt:119:5
 loop-less : tie.Need-loop-less Inv-loop μ-loop
 loop-less c = search needs
 
--- src/lib.rt:119:5
 loop-again : tie.Need-loop-again Inv-loop μ-loop
 loop-again c =
     let call = c .before .before .before .before .before in
@@ -113,11 +103,9 @@ loop-again c =
       kept-then (a .first) (a .first + b .loop .a) (a .index .now) x y (omega arith) (b .loop .inv .3) (call .read-step .ensures .1),
     )
 
--- src/lib.rt:112:1
 same-length-2 : tie.Need-same-length-2 Inv-loop μ-loop
 same-length-2 c = search needs
 
--- src/lib.rt:112:1
 returns-2 : tie.Need-returns-2 Inv-loop μ-loop
 returns-2 c =
     let a = c .before .before .before .before .args in

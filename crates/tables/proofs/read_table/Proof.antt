@@ -8,32 +8,26 @@ use Rattle.tables.proofs.read_table.Lts as lts
 use Rattle.tables.proofs.read_head.Reads as read-head-reads
 use Rattle.tables.proofs.read_states.Reads as read-states-reads
 
--- src/lib.rt:461:9
 read-head-requires : tie.Need-read-head-requires
 read-head-requires c κs = search needs
 
--- src/lib.rt:462:30
 enum-known-got : tie.Need-enum-known-got
 enum-known-got c = search needs
 
--- src/lib.rt:463:9
 enum-told : tie.Need-enum-told
 enum-told c = search needs
 
--- src/lib.rt:463:9
 returns : tie.Need-returns
 returns c =
     let call = c .before .before in
     size-not (call .before .before .args .table .now) (call .read-head .result) (call .read-head .ensures) (c .enum-told .given .0 .0) (c .enum-told .given .1)
 
--- src/lib.rt:465:8
 read-states-requires : tie.Need-read-states-requires
 read-states-requires c κs =
     let told = c .before .got .given in
     let call = c .before .before .before in
     head-of (call .before .before .args .table .now) (call .read-head .result) (call .read-head .ensures) (told .0 .0) (told .0 .1 .0) (told .1)
 
--- src/lib.rt:466:9
 returns-2 : tie.Need-returns-2
 returns-2 c =
     let read = c .before in
@@ -43,7 +37,6 @@ returns-2 c =
     rw (told .1) at
     (size-of (a .table .now) (call .read-head .result) (call .read-head .ensures) (told .0 .0) (told .0 .1 .0) (read .read-states .result) (told .1) (read .read-states .ensures) (c .if1 .taken))
 
--- src/lib.rt:458:1
 returns-3 : tie.Need-returns-3
 returns-3 c =
     let read = c .before in

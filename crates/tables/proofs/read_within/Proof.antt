@@ -7,15 +7,12 @@ use Rattle.tables.proofs.read_within.Reads as reads
 use Rattle.tables.proofs.read_within.Lts as lts
 use Rattle.tables.proofs.load.Reads as load-reads
 
--- src/lib.rt:384:5
 load-requires : tie.Need-load-requires
 load-requires c κs = search needs
 
--- src/lib.rt:380:1
 same-length : tie.Need-same-length
 same-length c = search needs
 
--- src/lib.rt:380:1
 returns : tie.Need-returns
 returns c =
     let call = c .before .before in

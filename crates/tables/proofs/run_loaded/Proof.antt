@@ -10,19 +10,15 @@ use Rattle.sentences.proofs.admit.Reads as admit-reads
 use Rattle.sentences.proofs.count_changes.Reads as count-changes-reads
 use Rattle.tables.proofs.transduce.Reads as transduce-reads
 
--- src/lib.rt:359:48
 cast-admit : tie.Need-cast-admit
 cast-admit c = search needs
 
--- src/lib.rt:359:9
 admit-requires : tie.Need-admit-requires
 admit-requires c κs = search needs
 
--- src/lib.rt:360:31
 enum-known-admission : tie.Need-enum-known-admission
 enum-known-admission c = search needs
 
--- src/lib.rt:361:9
 returns : tie.Need-returns
 returns c =
     let call = c .before .before .before in
@@ -34,7 +30,6 @@ returns c =
 enum-told : tie.Need-enum-told
 enum-told c = search needs
 
--- src/lib.rt:363:5
 transduce-requires : tie.Need-transduce-requires
 transduce-requires c κs =
     let told = c .before in
@@ -43,7 +38,6 @@ transduce-requires c κs =
     let a = start .args in
     run-ready (a .table .now) (a .sentence .now) (a .out .now) (a .k) (a .index .now) (start .pre) (call .admit .result) (told .enum-told .given .1) (call .admit .ensures)
 
--- src/lib.rt:365:59
 slice-reshare-prefix-count-changes : tie.Need-slice-reshare-prefix-count-changes
 slice-reshare-prefix-count-changes c =
     let told = c .before .before .before .before in
@@ -52,7 +46,6 @@ slice-reshare-prefix-count-changes c =
     let a = start .args in
     omega (arith, run-ready (a .table .now) (a .sentence .now) (a .out .now) (a .k) (a .index .now) (start .pre) (call .admit .result) (told .enum-told .given .1) (call .admit .ensures) .room)
 
--- src/lib.rt:365:59
 slice-aggregate-count-changes : tie.Need-slice-aggregate-count-changes
 slice-aggregate-count-changes c =
     let told = c .before .before .before .before .before in
@@ -62,7 +55,6 @@ slice-aggregate-count-changes c =
     let made = c .before .before .before in
     run-front (a .table .now) (a .sentence .now) (a .out .now) (a .k) (a .index .now) (start .pre) (call .admit .result) (told .enum-told .given .1) (call .admit .ensures) (made .transduce .last .1 .1 .1 .0) (made .transduce .ensures)
 
--- src/lib.rt:365:24
 count-changes-requires : tie.Need-count-changes-requires
 count-changes-requires c κs =
     let told = c .before .before .before .before .before in
@@ -72,11 +64,9 @@ count-changes-requires c κs =
     let made = c .before .before .before in
     run-front (a .table .now) (a .sentence .now) (a .out .now) (a .k) (a .index .now) (start .pre) (call .admit .result) (told .enum-told .given .1) (call .admit .ensures) (made .transduce .last .1 .1 .1 .0) (made .transduce .ensures)
 
--- src/lib.rt:354:1
 same-length : tie.Need-same-length
 same-length c = search needs
 
--- src/lib.rt:354:1
 returns-2 : tie.Need-returns-2
 returns-2 c =
     let told = c .before .before .before .before .before .before in

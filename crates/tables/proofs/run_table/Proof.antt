@@ -8,19 +8,15 @@ use Rattle.tables.proofs.run_table.Lts as lts
 use Rattle.tables.proofs.read_head.Reads as read-head-reads
 use Rattle.tables.proofs.run_states.Reads as run-states-reads
 
--- src/lib.rt:498:9
 read-head-requires : tie.Need-read-head-requires
 read-head-requires c κs = search needs
 
--- src/lib.rt:499:30
 enum-known-got : tie.Need-enum-known-got
 enum-known-got c = search needs
 
--- src/lib.rt:500:35
 enum-told : tie.Need-enum-told
 enum-told c = search needs
 
--- src/lib.rt:500:9
 returns : tie.Need-returns
 returns c =
     let call = c .before .before in
@@ -28,7 +24,6 @@ returns c =
     run-malformed (a .table .now) (a .sentence .now) (a .out .now)
     (head-not (a .table .now) (call .read-head .result) (call .read-head .ensures) (c .enum-told .given .0 .0) (c .enum-told .given .1) .0)
 
--- src/lib.rt:502:5
 run-states-requires : tie.Need-run-states-requires
 run-states-requires c κs =
     let told = c .before .before .got .given in
@@ -36,11 +31,9 @@ run-states-requires c κs =
     let a = call .before .before .before .before .args in
     head-of (a .table .now) (call .read-head .result) (call .read-head .ensures) (told .0 .0) (told .0 .1 .0) (told .1)
 
--- src/lib.rt:494:1
 same-length : tie.Need-same-length
 same-length c = search needs
 
--- src/lib.rt:494:1
 returns-2 : tie.Need-returns-2
 returns-2 c = search needs
 

@@ -11,15 +11,12 @@ use Rattle.tables.proofs.run_within.Lts as lts
 use Rattle.tables.proofs.load.Reads as load-reads
 use Rattle.tables.proofs.run_loaded.Reads as run-loaded-reads
 
--- src/lib.rt:374:9
 load-requires : tie.Need-load-requires
 load-requires c κs = search needs
 
--- src/lib.rt:375:9
 same-length : tie.Need-same-length
 same-length c = search needs
 
--- src/lib.rt:375:9
 returns : tie.Need-returns
 returns c =
     let call = c .before .before .before in
@@ -28,7 +25,6 @@ returns c =
     run-malformed (a .table .now) (a .sentence .now) (a .out .now)
     (not-loaded (a .table .now) (a .k) (a .s) (call .load .last .1 .1 .1 .0) r (call .load .ensures) (not-true r (c .if1 .taken)))
 
--- src/lib.rt:377:5
 run-loaded-requires : tie.Need-run-loaded-requires
 run-loaded-requires c κs =
     let else = c .before .before in
@@ -42,15 +38,12 @@ run-loaded-requires c κs =
     (not-false r (else .if1 .left))
     (omega arith)
 
--- src/lib.rt:369:1
 same-length-2 : tie.Need-same-length-2
 same-length-2 c = search needs
 
--- src/lib.rt:369:1
 same-length-3 : tie.Need-same-length-3
 same-length-3 c = search needs
 
--- src/lib.rt:369:1
 returns-2 : tie.Need-returns-2
 returns-2 c = search needs
 

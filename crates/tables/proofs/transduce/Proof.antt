@@ -4,8 +4,7 @@ use native.Mathlib.Omega.{arith}
 use borrow.Author.Needs.{needs}
 use mathlib.Core.Path.{_≡_, refl}
 use lib.ListN.{length, drop}
-use Rattle.tables.specs.Index.{Ready}
-use Rattle.tables.proofs.Runs.{Running, running-start, turn-inside, turn-cell, turn-short, turn-place, turn-room, turn-count, turn-next, turn-kept, end-inside, end-base, end-place, end-count, end-made}
+use Rattle.tables.proofs.Runs.{Going, going-start, turn-inside, turn-cell, turn-short, turn-place, turn-room, turn-count, turn-next, end-inside, end-base, end-place, end-count, end-made}
 use Rattle.tables.proofs.transduce.Statement.{statement}
 use Rattle.tables.proofs.transduce.Tie as tie
 use Rattle.tables.proofs.transduce.Reads as reads
@@ -18,63 +17,43 @@ use Rattle.tables.proofs.put.Reads as put-reads
 use Rattle.tables.proofs.put_word.Reads as put-word-reads
 
 abbrev Inv-loop : tie.InvT-loop
-Inv-loop table index sentence out₀ base₀ at₀ i₀ out base at i =
-    (p : Ready table index sentence out₀)
-    × (i ≤ length sentence)
-    × (length out ≡ length out₀)
-    × (drop (length sentence) out ≡ drop (length sentence) out₀)
-    × Running (p .tags) (p .usable .loaded .table) sentence out i at base
+Inv-loop table index sentence out₀ base₀ at₀ i₀ out base at i = Going table index sentence out₀ out i at base
 
 abbrev μ-loop : tie.MeasureT-loop
 μ-loop table index sentence out₀ base₀ at₀ i₀ out base at i = length sentence - i
 
--- src/lib.rt:340:5
 loop-holds : tie.Need-loop-holds Inv-loop μ-loop
 loop-holds c =
     let start = c .before .before .before .before in
-    let a = start .args in (
-      start .pre,
-      omega arith,
-      refl,
-      refl,
-      running-start (start .pre .tags) (start .pre .usable .loaded .table) (a .sentence .now) (a .out .now) (start .pre .usable .valid),
-    )
+    let a = start .args in
+    going-start (a .table .now) (a .index .now) (a .sentence .now) (a .out .now) (start .pre)
 
--- src/lib.rt:341:39
 shared-slice-read-entry-at : tie.Need-shared-slice-read-entry-at Inv-loop μ-loop
 shared-slice-read-entry-at c = search needs
 
--- src/lib.rt:341:13
 entry-at-requires : tie.Need-entry-at-requires Inv-loop μ-loop
 entry-at-requires c κs =
     let b = c .before .before in
-    let a = b .before .before .before .before .before .args in
-    turn-inside (a .table .now) (a .index .now) (a .sentence .now) (a .out .now) (b .loop .out) (b .loop .i) (b .loop .at) (b .loop .base) (b .loop .inv .0) (b .loop .inv .2) (b .loop .inv .4) (omega arith)
+    turn-inside (b .loop .inv) (omega arith)
 
--- src/lib.rt:342:9
 put-requires : tie.Need-put-requires Inv-loop μ-loop
 put-requires c κs =
     let b = c .before .before .before .before in
-    let a = b .before .before .before .before .before .args in
     let e = c .before .entry-at in (
-      turn-place (a .table .now) (a .index .now) (a .sentence .now) (a .out .now) (b .loop .out) (b .loop .i) (b .loop .at) (b .loop .base) (b .loop .inv .0) (b .loop .inv .2) (b .loop .inv .4) (omega arith) (e .result) (e .ensures),
-      turn-room (a .table .now) (a .index .now) (a .sentence .now) (a .out .now) (b .loop .out) (b .loop .i) (b .loop .at) (b .loop .base) (b .loop .inv .0) (b .loop .inv .2) (b .loop .inv .4) (omega arith) (e .result) (e .ensures),
-      turn-count (a .table .now) (a .index .now) (a .sentence .now) (a .out .now) (b .loop .out) (b .loop .i) (b .loop .at) (b .loop .base) (b .loop .inv .0) (b .loop .inv .2) (b .loop .inv .4) (omega arith) (e .result) (e .ensures),
+      turn-place (b .loop .inv) (omega arith) (e .result) (e .ensures),
+      turn-room (b .loop .inv) (omega arith) (e .result) (e .ensures),
+      turn-count (b .loop .inv) (omega arith) (e .result) (e .ensures),
     )
 
--- src/lib.rt:343:9
 base-of-requires : tie.Need-base-of-requires Inv-loop μ-loop
 base-of-requires c κs = search needs
 
--- src/lib.rt:344:9
 add-i : tie.Need-add-i Inv-loop μ-loop
 add-i c = search needs
 
--- src/lib.rt:340:5
 loop-less : tie.Need-loop-less Inv-loop μ-loop
 loop-less c = search needs
 
--- src/lib.rt:340:5
 loop-again : tie.Need-loop-again Inv-loop μ-loop
 loop-again c =
     let b = c .before .before .before .before .before .before .before .before in
@@ -82,65 +61,51 @@ loop-again c =
     let call = c .before .before .before in
     let e = call .before .before .entry-at in
     let h : b .loop .i < length (a .sentence .now) = omega arith in
-    let out = call .put .last .1 .1 .0 in
-    let put = call .put .ensures _ _ (turn-cell (a .table .now) (a .index .now) (a .sentence .now) (a .out .now) (b .loop .out) (b .loop .i) (b .loop .at) (b .loop .base) (b .loop .inv .0) (b .loop .inv .2) (b .loop .inv .4) h (e .result) (e .ensures)) (turn-short (a .table .now) (a .index .now) (a .sentence .now) (a .out .now) (b .loop .out) (b .loop .i) (b .loop .at) (b .loop .base) (b .loop .inv .0) (b .loop .inv .2) (b .loop .inv .4) h (e .result) (e .ensures)) in (
-      b .loop .inv .0,
-      omega arith,
-      search needs,
-      turn-kept (a .table .now) (a .index .now) (a .sentence .now) (a .out .now) (b .loop .out) (b .loop .i) (b .loop .at) (b .loop .base) (b .loop .inv .0) (b .loop .inv .2) (b .loop .inv .4) h (e .result) (e .ensures) out (call .put .result) put (b .loop .inv .3),
-      turn-next (a .table .now) (a .index .now) (a .sentence .now) (a .out .now) (b .loop .out) (b .loop .i) (b .loop .at) (b .loop .base) (b .loop .inv .0) (b .loop .inv .2) (b .loop .inv .4) h (e .result) (e .ensures) out (call .put .result) put (c .base-of .result) (c .base-of .ensures),
-    )
+    let put =
+    call .put .ensures _ _ (turn-cell (b .loop .inv) h (e .result) (e .ensures)) (turn-short (b .loop .inv) h (e .result) (e .ensures)) in
+    turn-next (b .loop .inv) h (e .result) (e .ensures) (call .put .last .1 .1 .0) (call .put .result) put
+    (c .base-of .result)
+    (c .base-of .ensures)
+    (search needs)
 
--- src/lib.rt:346:19
 sub-e : tie.Need-sub-e Inv-loop μ-loop
 sub-e c =
     let b = c .before in
-    let a = b .before .before .before .before .before .args in
-    end-base (a .table .now) (a .index .now) (a .sentence .now) (a .out .now) (b .loop .out) (b .loop .i) (b .loop .at) (b .loop .base) (b .loop .inv .0) (b .loop .inv .2) (b .loop .inv .4) (omega arith)
+    omega (arith, end-base (b .loop .inv) (omega arith))
 
--- src/lib.rt:346:13
 mul-e : tie.Need-mul-e Inv-loop μ-loop
 mul-e c =
     let b = c .before in
-    let a = b .before .before .before .before .before .args in
-    omega (arith, end-inside (a .table .now) (a .index .now) (a .sentence .now) (a .out .now) (b .loop .out) (b .loop .i) (b .loop .at) (b .loop .base) (b .loop .inv .0) (b .loop .inv .2) (b .loop .inv .4) (omega arith))
+    omega (arith, end-inside (b .loop .inv) (omega arith))
 
--- src/lib.rt:346:13
 shared-slice-read-e : tie.Need-shared-slice-read-e Inv-loop μ-loop
 shared-slice-read-e c =
     let b = c .before .before in
-    let a = b .before .before .before .before .before .args in
-    end-inside (a .table .now) (a .index .now) (a .sentence .now) (a .out .now) (b .loop .out) (b .loop .i) (b .loop .at) (b .loop .base) (b .loop .inv .0) (b .loop .inv .2) (b .loop .inv .4) (omega arith)
+    omega (arith, end-inside (b .loop .inv) (omega arith))
 
--- src/lib.rt:347:21
 place-of-requires : tie.Need-place-of-requires Inv-loop μ-loop
 place-of-requires c κs = search needs
 
--- src/lib.rt:347:34
 count-of-requires : tie.Need-count-of-requires Inv-loop μ-loop
 count-of-requires c κs = search needs
 
--- src/lib.rt:347:5
 put-word-requires : tie.Need-put-word-requires Inv-loop μ-loop
 put-word-requires c κs =
     let b = c .before .before .before .before .before in
     let a = b .before .before .before .before .before .args in (
-      omega (arith, end-place (a .table .now) (a .index .now) (a .sentence .now) (a .out .now) (b .loop .out) (b .loop .i) (b .loop .at) (b .loop .base) (b .loop .inv .0) (b .loop .inv .2) (b .loop .inv .4) (omega arith) _ refl),
-      omega (arith, end-count (a .table .now) (a .index .now) (a .sentence .now) (a .out .now) (b .loop .out) (b .loop .i) (b .loop .at) (b .loop .base) (b .loop .inv .0) (b .loop .inv .2) (b .loop .inv .4) (omega arith) _ refl),
+      omega (arith, end-place (b .loop .inv) (omega arith) _ refl),
+      omega (arith, end-count (b .loop .inv) (omega arith) _ refl),
     )
 
--- src/lib.rt:333:1
 same-length : tie.Need-same-length Inv-loop μ-loop
-same-length c = omega (arith, c .before .before .before .before .before .before .before .before .loop .inv .2)
+same-length c = omega (arith, c .before .before .before .before .before .before .before .before .loop .inv .long)
 
--- src/lib.rt:333:1
 returns : tie.Need-returns Inv-loop μ-loop
 returns c =
     let b = c .before .before .before .before .before .before .before .before in
-    let a = b .before .before .before .before .before .args in
     let call = c .before .before in
     let count = call .before .before in
-    end-made (a .table .now) (a .index .now) (a .sentence .now) (a .out .now) (b .loop .out) (b .loop .i) (b .loop .at) (b .loop .base) (b .loop .inv .0) (b .loop .inv .2) (b .loop .inv .4) (omega arith) _ refl (count .before .place-of .result) (count .count-of .result) (call .put-word .last .1 .1 .1 .0) (search needs) (search needs) (b .loop .inv .3) (call .put-word .ensures)
+    end-made (b .loop .inv) (omega arith) _ refl (count .before .place-of .result) (count .count-of .result) (call .put-word .last .1 .1 .1 .0) (search needs) (search needs) (call .put-word .ensures)
 
 pub transduce-spec : {M : Type 1} → statement M
 transduce-spec =

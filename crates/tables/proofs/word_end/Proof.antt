@@ -20,38 +20,30 @@ Inv-loop table from command k at₀ at =
 abbrev μ-loop : tie.MeasureT-loop
 μ-loop table from command k at₀ at = length table - at
 
--- src/lib.rt:35:5
 loop-holds : tie.Need-loop-holds Inv-loop μ-loop
 loop-holds c = search needs
 
--- src/lib.rt:35:15
 sub-loop : tie.Need-sub-loop Inv-loop μ-loop
 sub-loop c = search needs
 
--- src/lib.rt:36:12
 shared-slice-read-if1 : tie.Need-shared-slice-read-if1 Inv-loop μ-loop
 shared-slice-read-if1 c = search needs
 
--- src/lib.rt:37:13
 returns : tie.Need-returns Inv-loop μ-loop
 returns c =
     let a = c .before .before .before .before .before .args in
     let at = c .before .before .before .loop .at in
     omega (arith, word-left (a .command) (a .k) (a .table .now) at (omega arith) (c .if1 .taken))
 
--- src/lib.rt:39:28
 add-wide : tie.Need-add-wide Inv-loop μ-loop
 add-wide c = search needs
 
--- src/lib.rt:39:22
 shared-slice-read-wide : tie.Need-shared-slice-read-wide Inv-loop μ-loop
 shared-slice-read-wide c = search needs
 
--- src/lib.rt:39:17
 wide-requires : tie.Need-wide-requires Inv-loop μ-loop
 wide-requires c κs = search needs
 
--- src/lib.rt:40:13
 returns-2 : tie.Need-returns-2 Inv-loop μ-loop
 returns-2 c =
     let b = c .before .before .before .before .before .before in
@@ -59,15 +51,12 @@ returns-2 c =
     let at = b .loop .at in
     omega (arith, word-last (a .command) (a .k) (a .table .now) at (omega arith) (search needs) (omega arith))
 
--- src/lib.rt:42:9
 add-at : tie.Need-add-at Inv-loop μ-loop
 add-at c = search needs
 
--- src/lib.rt:35:5
 loop-less : tie.Need-loop-less Inv-loop μ-loop
 loop-less c = search needs
 
--- src/lib.rt:35:5
 loop-again : tie.Need-loop-again Inv-loop μ-loop
 loop-again c =
     let b = c .before .before .before .before .before .before in
@@ -75,7 +64,6 @@ loop-again c =
     let at = b .loop .at in
     omega (arith, word-turn (a .command) (a .k) (a .table .now) at (omega arith) (search needs) (omega arith))
 
--- src/lib.rt:30:1
 returns-3 : tie.Need-returns-3 Inv-loop μ-loop
 returns-3 c =
     let a = c .before .before .before .args in

@@ -11,27 +11,21 @@ use Rattle.tables.proofs.capped.Reads as capped-reads
 use Rattle.tables.proofs.entry.Reads as entry-reads
 use Rattle.tables.proofs.wide.Reads as wide-reads
 
--- src/lib.rt:90:18
 sub-count : tie.Need-sub-count
 sub-count c = search needs
 
--- src/lib.rt:92:42
 add-wide : tie.Need-add-wide
 add-wide c = search needs
 
--- src/lib.rt:92:36
 shared-slice-read-wide : tie.Need-shared-slice-read-wide
 shared-slice-read-wide c = search needs
 
--- src/lib.rt:92:31
 wide-requires : tie.Need-wide-requires
 wide-requires c κs = search needs
 
--- src/lib.rt:92:9
 entry-requires : tie.Need-entry-requires
 entry-requires c κs = search needs
 
--- src/lib.rt:92:9
 returns : tie.Need-returns
 returns c w long stands =
     let a = c .before .before .before .before .before .args in
@@ -39,19 +33,15 @@ returns c w long stands =
     cell-one (a .table .now) w (a .base) (a .from) (c .entry .result) (c .before .wide .result) (search needs) (search needs) (search needs) (tag .1) (omega arith)
     (tag .0 ∙ word-first (a .table .now) w (a .from) (omega arith) stands)
 
--- src/lib.rt:94:17
 capped-requires : tie.Need-capped-requires
 capped-requires c κs = search needs
 
--- src/lib.rt:94:32
 add-entry : tie.Need-add-entry
 add-entry c = search needs
 
--- src/lib.rt:94:5
 entry-requires-2 : tie.Need-entry-requires-2
 entry-requires-2 c κs = search needs
 
--- src/lib.rt:86:1
 returns-2 : tie.Need-returns-2
 returns-2 c w long stands =
     let a = c .before .before .before .before .args in
