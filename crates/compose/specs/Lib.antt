@@ -1,0 +1,3 @@
+-- Composition in the work slice.
+pub mod Runs
+pub mod Composed

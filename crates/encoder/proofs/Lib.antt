@@ -1,0 +1,2 @@
+-- Laws of written bytes.
+pub mod Laws

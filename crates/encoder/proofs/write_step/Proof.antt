@@ -1,0 +1,93 @@
+-- `encoder::write_step` meets its contract.
+use Prim.Native.Nat.{ℕ, _+_, _/_, _%_}
+use native.Mathlib.Omega.{arith}
+use borrow.Author.Needs.{needs}
+use mathlib.Core.Path.{_≡_, ap, _∙_}
+use mathlib.Core.List.{List, _∷_}
+use lib.ListN.{length, length-set}
+use Rattle.tables.specs.Bytes.{tagged}
+use Rattle.workspace.specs.Cells.{word}
+use Rattle.encoder.proofs.Laws.{wrote-three, wrote-is}
+use Rattle.encoder.proofs.write_step.Statement.{statement}
+use Rattle.encoder.proofs.write_step.Tie as tie
+use Rattle.encoder.proofs.write_step.Reads as reads
+use Rattle.encoder.proofs.write_step.Lts as lts
+use Rattle.encoder.proofs.byte.Reads as byte-reads
+use Rattle.encoder.proofs.write_word.Reads as write-word-reads
+use Rattle.workspace.proofs.get.Reads as get-reads
+
+-- src/lib.rt:54:9
+get-requires : tie.Need-get-requires
+get-requires c κs = search needs
+
+-- src/lib.rt:55:5
+slice-write-out : tie.Need-slice-write-out
+slice-write-out c = search needs
+
+-- src/lib.rt:56:21
+byte-requires : tie.Need-byte-requires
+byte-requires c κs = search needs
+
+-- src/lib.rt:56:9
+add-out : tie.Need-add-out
+add-out c = search needs
+
+-- src/lib.rt:56:5
+slice-write-out-2 : tie.Need-slice-write-out-2
+slice-write-out-2 c = simp length-set (omega arith)
+
+-- src/lib.rt:57:21
+byte-requires-2 : tie.Need-byte-requires-2
+byte-requires-2 c κs = search needs
+
+-- src/lib.rt:57:9
+add-out-2 : tie.Need-add-out-2
+add-out-2 c = search needs
+
+-- src/lib.rt:57:5
+slice-write-out-3 : tie.Need-slice-write-out-3
+slice-write-out-3 c = simp length-set (omega arith)
+
+-- src/lib.rt:58:45
+add-write-word : tie.Need-add-write-word
+add-write-word c = search needs
+
+-- src/lib.rt:58:5
+write-word-requires : tie.Need-write-word-requires
+write-word-requires c κs =
+    let st = c .before .before .before .before .before .before in
+    (st .pre .0 .sized, (st .pre .0 .outputs (st .args .a) (st .pre .1 .0), simp length-set (omega (arith, st .pre .1 .1))))
+
+-- src/lib.rt:49:1
+same-length : tie.Need-same-length
+same-length c = c .before .before .write-word .kept .1 .1 .1 .1 .1 .1 .0 ∙ (simp length-set)
+
+-- src/lib.rt:49:1
+returns : tie.Need-returns
+returns c =
+    let st = c .before .before .before .before .before .before .before .before .before in
+    let h = c .before .before .before .before .before .byte in
+    let l = c .before .before .before .before .byte2 in
+    let n = c .before .before .before .before .before .before .get in
+    let w = c .before .before .write-word in
+    let word = tagged 0x34 (word (st .args .g) (st .args .work .now) (st .args .r) (st .args .a) 1) in
+    wrote-is (st .args .out .now) (w .last .1 .1 .1 .1 .1 .1 .0) (st .args .from) (w .result) (0x33 ∷ h .result ∷ l .result ∷ word) _
+    (cc (h .ensures, l .ensures, n .ensures .is))
+    (wrote-three (st .args .out .now) (w .last .1 .1 .1 .1 .1 .1 .0) (st .args .from) 0x33 (h .result) (l .result) word (w .result) (w .ensures))
+
+pub write-step-spec : {M : Type 1} → statement M
+write-step-spec =
+    tie.close
+    (tie.spec
+    get-requires
+    slice-write-out
+    byte-requires
+    add-out
+    slice-write-out-2
+    byte-requires-2
+    add-out-2
+    slice-write-out-3
+    add-write-word
+    write-word-requires
+    same-length
+    returns)

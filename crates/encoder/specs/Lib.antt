@@ -1,0 +1,2 @@
+-- The bytes of a table that stands in the work slice.
+pub mod Encoding

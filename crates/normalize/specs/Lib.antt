@@ -1,0 +1,3 @@
+-- Normalization in the work slice.
+pub mod Fronts
+pub mod Strip

@@ -1,0 +1,3 @@
+-- Laws of the rule's transducer, as the code writes it.
+pub mod Borders
+pub mod Words

@@ -1,0 +1,154 @@
+-- The words of the rule's transducer as parts of the pattern.
+use Prim.Native.Nat.{ℕ, zero, suc, _+_, _-_, _≤_, _<_, min}
+use native.Mathlib.Omega.{arith}
+use native.Mathlib.Decide.{ℕ-discrete, decLt}
+use native.Mathlib.Numerals.{add-one}
+use mathlib.Core.Path.{_≡_, refl, sym, ap, ap₂, _∙_, subst}
+use mathlib.Core.Bool.{Bool, true, false}
+use mathlib.Core.List.{List, [], _∷_, _++_}
+use borrow.Author.Tests.{eq-eqb, ne-eqb, eqb-true, eqb-false}
+use lib.Dec.{eqb}
+use lib.ListN.{length, getD, set, take, drop, length-append, length-drop, length-take, length-set, drop-of-length-le}
+use lib.Seq.{drop-cons, getD-set-same, drop-set-lt, take-length, take-all, take-append-le, take-take, take-add, drop-at, length-take-le}
+use Rattle.words.specs.Overlap.{overlap}
+use Rattle.words.proofs.Overlap.{overlap-le}
+use Rattle.cascades.specs.Rule.{Rule, replaced}
+use Rattle.transducers.specs.Canonical.{Inside}
+use Rattle.minimal.specs.OneRule.{held, goes, says, oneRule}
+use Rattle.workspace.specs.declared.Grid.{Grid}
+use Rattle.workspace.specs.Cells.{part}
+use Rattle.workspace.specs.Holds.{Roomy}
+use Rattle.workspace.proofs.Cells.{part-length}
+use Rattle.onerule.specs.Rule.{rule}
+use Rattle.onerule.proofs.Borders.{matched, matched-length}
+
+part-lesser : (u : List ℕ) (p j : ℕ) → j ≤ length u → part (min p j) j u ≡ part p j u
+part-lesser u p j h = by (decLt p j)
+  where
+    none : (i : ℕ) → j ≤ i → part i j u ≡ []
+    none i le = drop-of-length-le (take j u) {i = i} (omega (arith, length-take-le j u h))
+
+    by : Dec (p < j) → part (min p j) j u ≡ part p j u
+    by (yes lt) = let e : min p j ≡ p = omega arith in ap (λ (i : ℕ). part i j u) e
+    by (no n) = none (min p j) (omega arith) ∙ sym (none p (omega arith))
+
+-- a part of a part from the same place
+part-part : (u : List ℕ) (p n j : ℕ) → p + n ≤ j → j ≤ length u → take n (part p j u) ≡ part p (p + n) u
+part-part u p n j h hj =
+    sym (ap (drop p) (take-add p n (take j u)) ∙ drop-at (take p (take j u)) (take n (drop p (take j u))) p (length-take-le p (take j u) (omega (arith, length-take-le j u hj))))
+    ∙ ap (drop p) (take-take (p + n) j u h)
+
+module _ (u : List ℕ) (p b : ℕ) where
+  pub goes-le : (j a : ℕ) → j < length u → goes (rule u p b) j a ≤ j + 1
+  goes-le j a h = by (eqb j (length u)) refl
+    where
+      by : (c : Bool) → eqb j (length u) ≡ c → elim c [ true ↦ j | false ↦ overlap u (matched u j a) ] ≤ j + 1
+      by true e = omega arith
+      by false e = omega (arith, overlap-le u (matched u j a) .0, matched-length u j a h)
+
+  pub goes-below : (j a : ℕ) → j ≤ length u → goes (rule u p b) j a ≤ length u
+  goes-below j a h = by (eqb j (length u))
+    where
+      by : (c : Bool) → elim c [ true ↦ j | false ↦ overlap u (matched u j a) ] ≤ length u
+      by true = h
+      by false = overlap-le u (matched u j a) .1
+
+  held-part : (j : ℕ) → j < length u → held (rule u p b) j ≡ part p j u
+  held-part j h = cc (ne-eqb j (length u) (λ e. omega arith))
+
+  pub held-lesser : (j : ℕ) → j < length u → part (min p j) j u ≡ held (rule u p b) j
+  held-lesser j h = part-lesser u p j (omega arith) ∙ sym (held-part j h)
+
+  pub held-none : (j : ℕ) → j ≡ length u → [] ≡ held (rule u p b) j
+  held-none j e = cc (eq-eqb j (length u) e)
+
+  pub goes-end : (j a : ℕ) → j ≡ length u → j ≡ goes (rule u p b) j a
+  goes-end j a e = cc (eq-eqb j (length u) e)
+
+  pub goes-overlap : (j a n : ℕ) → j < length u → n ≡ overlap u (matched u j a) → n ≡ goes (rule u p b) j a
+  goes-overlap j a n h e = cc (ne-eqb j (length u) (λ e. omega arith))
+
+  pub says-end : (j a : ℕ) → j ≡ length u → a ∷ [] ≡ says (rule u p b) j a
+  says-end j a e = cc (eq-eqb j (length u) e)
+
+  module _ (j a next : ℕ) (h : j < length u) (to : next ≡ goes (rule u p b) j a) where
+    matches : eqb j (length u) ≡ false
+    matches = ne-eqb j (length u) (λ e. omega arith)
+
+    pub says-match : p < length u → next ≡ length u → b ∷ part (p + 1) (length u) u ≡ says (rule u p b) j a
+    says-match hp e =
+        ap {B = List ℕ} (λ (l : List ℕ). b ∷ drop (p + 1) l) (take-length u)
+        ∙ sym (drop-cons (set u p b) p 0 (omega (arith, length-set u p b))
+        ∙ ap₂ {C = List ℕ} (λ (x : ℕ) (l : List ℕ). x ∷ l) (getD-set-same u p b 0 hp) (drop-set-lt (suc p) u p b (omega arith) ∙ ap (λ (i : ℕ). drop i u) (sym (add-one p))))
+        ∙ by (goes (rule u p b) j a) (sym to ∙ e) refl
+      where
+        by : (n : ℕ) → n ≡ length u → goes (rule u p b) j a ≡ n → drop p (set u p b) ≡ says (rule u p b) j a
+        by n full is = cc (matches, eq-eqb (goes (rule u p b) j a) (length u) (is ∙ full))
+
+    -- on a mismatch: what was held and the tag, without what is held next
+    says-back : (next ≡ length u → ⊥)
+        → says (rule u p b) j a ≡ take (suc (length (part p j u)) - length (part p next u)) (part p j u ++ (a ∷ []))
+    says-back e =
+        let short : next < length u = omega (arith, e, goes-below j a (omega arith)) in
+        one ∙ ap₂ (λ (x y : List ℕ). take (suc (length x) - length y) (x ++ (a ∷ []))) (held-part j h) (ap (held (rule u p b)) (sym to) ∙ held-part next short)
+      where
+        one : says (rule u p b) j a
+            ≡ take (suc (length (held (rule u p b) j)) - length (held (rule u p b) (goes (rule u p b) j a))) (held (rule u p b) j ++ (a ∷ []))
+        one = cc (matches, ne-eqb (goes (rule u p b) j a) (length u) (λ d. e (to ∙ d)))
+
+    pub says-short : (next ≡ length u → ⊥) → p < next → part p (p + (j + 1 - next)) u ≡ says (rule u p b) j a
+    says-short e lt =
+        let le = goes-le j a h in
+        let n : suc (length (part p j u)) - length (part p next u) ≡ j + 1 - next =
+        omega (arith, part-length u p j (omega arith), part-length u p next (omega (arith, goes-below j a (omega arith)))) in
+        sym (says-back e ∙ ap (λ (i : ℕ). take i (part p j u ++ (a ∷ []))) n
+        ∙ take-append-le (j + 1 - next) (part p j u) (a ∷ []) (omega (arith, part-length u p j (omega arith)))
+        ∙ part-part u p (j + 1 - next) j (omega arith) (omega arith))
+
+    pub says-back-all : (next ≡ length u → ⊥) → next ≤ p → part (min p j) j u ++ (a ∷ []) ≡ says (rule u p b) j a
+    says-back-all e le =
+        let none : length (part p next u) ≡ 0 = omega (arith, part-length u p next (omega (arith, goes-below j a (omega arith)))) in
+        ap (λ (l : List ℕ). l ++ (a ∷ [])) (part-lesser u p j (omega arith))
+        ∙ sym (says-back e ∙ take-all (suc (length (part p j u)) - length (part p next u)) (part p j u ++ (a ∷ [])) (omega (arith, none, length-append (part p j u) (a ∷ []))))
+
+  -- the words are within their cells
+  pub roomy-rule : (g : Grid) → p < length u → length u + 7 ≤ g .depth → Roomy g (oneRule (rule u p b))
+  roomy-rule g hp deep =
+      record {
+        outputs = λ j a hj ha. by j a (omega arith) (eqb j (length u)) (eqb (goes (rule u p b) j a) (length u));
+        finals = λ j hj. fin j (omega arith) (eqb j (length u)) refl;
+      }
+    where
+      held-le : (j : ℕ) → length (held (rule u p b) j) ≤ j
+      held-le j = at (eqb j (length u))
+        where
+          at : (c : Bool) → length {A = ℕ} (elim c [ true ↦ [] | false ↦ drop p (take j u) ]) ≤ j
+          at true = omega arith
+          at false = omega (arith, length-drop p (take j u), length-take j u)
+
+      by : (j a : ℕ) → j ≤ length u → (c d : Bool)
+          → length {A = ℕ} (elim c [
+            | true ↦ a ∷ []
+            | false ↦ elim d [
+              | true ↦ drop p (set u p b)
+              | false ↦ take (suc (length (held (rule u p b) j)) - length (held (rule u p b) (goes (rule u p b) j a))) (held (rule u p b) j ++ (a ∷ []))
+            ]
+          ]) + 2
+          ≤ g .depth
+      by j a h true d = omega arith
+      by j a h false true = omega (arith, length-drop p (set u p b), length-set u p b)
+      by j a h false false =
+          omega (
+            arith,
+            length-take (suc (length (held (rule u p b) j)) - length (held (rule u p b) (goes (rule u p b) j a))) (held (rule u p b) j ++ (a ∷ [])),
+            length-append (held (rule u p b) j) (a ∷ []),
+            held-le j,
+          )
+
+      fin : (j : ℕ) → j ≤ length u → (c : Bool) → eqb j (length u) ≡ c
+          → length {A = ℕ} (elim c [ true ↦ [] | false ↦ drop p (take j u) ]) + 8 ≤ g .depth
+      fin j h true e = omega arith
+      fin j h false e = omega (arith, eqb-false j (length u) e, length-drop p (take j u), length-take j u)
+
+  pub inside-rule : (k : ℕ) → Inside k (oneRule (rule u p b))
+  inside-rule k j a hj ha = omega (arith, goes-below j a (omega arith))

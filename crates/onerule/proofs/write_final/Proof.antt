@@ -1,0 +1,56 @@
+use Rattle.onerule.proofs.Words.{held-lesser, held-none}
+use Rattle.workspace.proofs.Cells.{written-more, written-is}
+use Rattle.workspace.specs.Cells.{part}
+use Prim.Native.Nat.{min, ℕ}
+use mathlib.Core.Path.{sym, ap, _∙_}
+use native.Mathlib.Omega.{arith}
+use borrow.Author.Needs.{needs}
+use Rattle.onerule.proofs.write_final.Statement.{statement}
+use Rattle.onerule.proofs.write_final.Tie as tie
+use Rattle.onerule.proofs.write_final.Reads as reads
+use Rattle.onerule.proofs.write_final.Lts as lts
+use Rattle.onerule.proofs.lesser.Reads as lesser-reads
+use Rattle.onerule.proofs.push_part.Reads as push-part-reads
+use Rattle.workspace.proofs.clear.Reads as clear-reads
+
+-- src/lib.rt:148:5
+clear-requires : tie.Need-clear-requires
+clear-requires c κs = search needs
+
+-- src/lib.rt:150:9
+same-length : tie.Need-same-length
+same-length c = search needs
+
+-- src/lib.rt:150:9
+returns : tie.Need-returns
+returns c = let a = c .before .before .before .before .before .before .before .args in written-is (a .g) _ _ _ _ _ _ _ (held-none (a .u .now) (a .place) (a .tag) (a .j) (c .if1 .taken)) (c .before .before .before .clear .ensures)
+
+-- src/lib.rt:152:41
+lesser-requires : tie.Need-lesser-requires
+lesser-requires c κs = search needs
+
+-- src/lib.rt:152:5
+push-part-requires : tie.Need-push-part-requires
+push-part-requires c κs = search needs
+
+-- src/lib.rt:143:1
+same-length-2 : tie.Need-same-length-2
+same-length-2 c = search needs
+
+-- src/lib.rt:143:1
+returns-2 : tie.Need-returns-2
+returns-2 c = let a = c .before .before .before .before .before .before .before .before .before .before .before .before .args in
+    written-is (a .g) _ _ _ _ _ _ _ (ap (λ (i : ℕ). part i (a .j) (a .u .now)) (c .before .before .before .lesser .ensures) ∙ held-lesser (a .u .now) (a .place) (a .tag) (a .j) (omega arith))
+    (written-more (a .g) _ _ _ _ _ _ _ _ (c .before .before .before .before .before .before .before .before .clear .ensures) (c .before .before .push-part .ensures))
+
+pub write-final-spec : {M : Type 1} → statement M
+write-final-spec =
+    tie.close
+    (tie.spec
+    clear-requires
+    same-length
+    returns
+    lesser-requires
+    push-part-requires
+    same-length-2
+    returns-2)

@@ -1,0 +1,34 @@
+use Rattle.onerule.proofs.Words.{roomy-rule}
+use Rattle.workspace.proofs.Holds.{stepping-end}
+use Rattle.onerule.specs.Rule.{rule}
+use Rattle.minimal.specs.OneRule.{oneRule}
+use native.Mathlib.Omega.{arith}
+use borrow.Author.Needs.{needs}
+use Rattle.onerule.proofs.write_state.Statement.{statement}
+use Rattle.onerule.proofs.write_state.Tie as tie
+use Rattle.onerule.proofs.write_state.Reads as reads
+use Rattle.onerule.proofs.write_state.Lts as lts
+use Rattle.onerule.proofs.write_final.Reads as write-final-reads
+use Rattle.onerule.proofs.write_steps.Reads as write-steps-reads
+
+-- src/lib.rt:160:5
+write-steps-requires : tie.Need-write-steps-requires
+write-steps-requires c κs = search needs
+
+-- src/lib.rt:161:5
+write-final-requires : tie.Need-write-final-requires
+write-final-requires c κs = search needs
+
+-- src/lib.rt:155:1
+same-length : tie.Need-same-length
+same-length c = search needs
+
+-- src/lib.rt:155:1
+returns : tie.Need-returns
+returns c = let st = c .before .before .before .before .before .before .before .before .before .before in let a = st .args in
+    stepping-end (a .g) (a .r) (oneRule (rule (a .u .now) (a .place) (a .tag))) (a .j) (omega arith)
+    (roomy-rule (a .u .now) (a .place) (a .tag) (a .g) (st .pre .0 .place-inside) (st .pre .0 .deep)) _ _ _ (c .before .before .before .before .before .before .write-steps .ensures) (c .before .before .write-final .ensures)
+
+pub write-state-spec : {M : Type 1} → statement M
+write-state-spec =
+    tie.close (tie.spec write-steps-requires write-final-requires same-length returns)

@@ -1,0 +1,2 @@
+-- The transducer of one rule in the work slice.
+pub mod Rule

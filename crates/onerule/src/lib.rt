@@ -1,0 +1,189 @@
+// The transducer of one rule: it does what the rule does, and is the smallest one that does.
+// Time grows with the tags times the cube of the pattern's length.
+// 002, definition 2, after Simon's string matching automaton: the states are the prefixes of the pattern, here by their lengths.
+use workspace::Grid;
+use workspace::clear;
+use workspace::lesser;
+use workspace::push;
+use workspace::put;
+ghost use mathlib.Core.Path.{_≡_};
+ghost use Prim.Native.Nat.{ℕ, suc, _+_, _*_, _≤_, _<_, min};
+ghost use mathlib.Core.List.{List, [], _∷_, _++_};
+ghost use lib.ListN.{length, drop, take};
+ghost use Rattle.words.specs.Word.{prefix};
+ghost use Rattle.words.specs.Overlap.{overlap};
+ghost use Rattle.minimal.specs.OneRule.{oneRule, ruleTable, goes, says, held};
+ghost use Rattle.workspace.specs.Cells.{at, word, Sized, In, Inner, Kept, In-rows, Written, part};
+ghost use Rattle.workspace.specs.Holds.{Stepped, Stepping, Rowed, Holds};
+ghost use Rattle.onerule.specs.Rule.{rule, Room};
+
+fn wide(x: u8) -> usize
+    ensures { λ r. ⌜ (r ≡ x) × (r < 256) ⌝ }
+{
+    x as usize
+}
+
+// Whether the tags of the pattern u from s to j, and a behind them, are the first ones of u.
+fn overlaps(u: &[u8], j: usize, a: usize, s: usize) -> bool
+    requires { ⌜ (s ≤ j) × (j < length (now u)) ⌝ }
+    ensures { λ r. ⌜ r ≡ prefix (drop s (take j (now (u .entry)) ++ (a ∷ []))) (now (u .entry)) ⌝ }
+{
+    let mut i = 0;
+    while s + i < j {
+        if u[s + i] != u[i] {
+            return false;
+        }
+        i += 1;
+    }
+    wide(u[i]) == a
+}
+
+// The length of the longest border: of the first j tags of u, and a behind them, with u.
+fn border(u: &[u8], j: usize, a: usize) -> usize
+    requires { ⌜ j < length (now u) ⌝ }
+    ensures { λ r. ⌜ r ≡ overlap (now (u .entry)) (take j (now (u .entry)) ++ (a ∷ [])) ⌝ }
+{
+    let mut s = 0;
+    while s <= j {
+        if overlaps(u, j, a, s) {
+            return j + 1 - s;
+        }
+        s += 1;
+    }
+    0
+}
+
+fn next_of(u: &[u8], j: usize, a: usize, place: usize, tag: u8) -> usize
+    requires { ⌜ j ≤ length (now u) ⌝ }
+    ensures { λ r. ⌜ r ≡ goes (rule (now (u .entry)) place tag) j a ⌝ }
+{
+    if j == u.len() {
+        return j;
+    }
+    border(u, j, a)
+}
+
+// The tags of u from one place up to another, behind the word at s.
+fn push_part(
+    work: &mut [u16],
+    g: Grid,
+    r: usize,
+    c: usize,
+    s: usize,
+    u: &[u8],
+    from: usize,
+    to: usize,
+)
+    requires { ⌜ Sized g (now work) ⌝ }
+    requires { ⌜ (r < g .rows) × (c < g .tags + 1) × (s + at g (now work) r c s + to < g .depth + from) ⌝ }
+    requires { ⌜ (from ≤ to) × (to ≤ length (now u)) ⌝ }
+    ensures { λ _. ⌜ Written g (now (work .entry)) (now (work .exit)) r c s (word g (now (work .entry)) r c s ++ part from to (now (u .entry))) ⌝ }
+{
+    let mut i = from;
+    while i < to {
+        push(work, g, r, c, s, wide(u[i]));
+        i += 1;
+    }
+}
+
+// Behind the empty word: what is put out where the first j tags were matched and a comes.
+fn write_output(
+    work: &mut [u16],
+    g: Grid,
+    r: usize,
+    u: &[u8],
+    place: usize,
+    tag: u8,
+    j: usize,
+    a: usize,
+    next: usize,
+)
+    requires { ⌜ Room g (now work) (rule (now u) place tag) ⌝ }
+    requires { ⌜ (r < g .rows) × (a < g .tags) × (j ≤ length (now u)) ⌝ }
+    requires { ⌜ next ≡ goes (rule (now u) place tag) j a ⌝ }
+    ensures { λ _. ⌜ Written g (now (work .entry)) (now (work .exit)) r a 1 (says (rule (now (u .entry)) place tag) j a) ⌝ }
+{
+    clear(work, g, r, a, 1);
+    if j == u.len() {
+        push(work, g, r, a, 1, a);
+        return;
+    }
+    if next == u.len() {
+        push(work, g, r, a, 1, wide(tag));
+        push_part(work, g, r, a, 1, u, place + 1, u.len());
+        return;
+    }
+    if place < next {
+        push_part(work, g, r, a, 1, u, place, place + (j + 1 - next));
+        return;
+    }
+    push_part(work, g, r, a, 1, u, lesser(place, j), j);
+    push(work, g, r, a, 1, a);
+}
+
+fn write_step(
+    work: &mut [u16],
+    g: Grid,
+    r: usize,
+    u: &[u8],
+    place: usize,
+    tag: u8,
+    j: usize,
+    a: usize,
+)
+    requires { ⌜ Room g (now work) (rule (now u) place tag) ⌝ }
+    requires { ⌜ (r < g .rows) × (a < g .tags) × (j ≤ length (now u)) ⌝ }
+    ensures { λ _. ⌜ Stepped g (now (work .entry)) (now (work .exit)) r a (goes (rule (now (u .entry)) place tag) j a) (says (rule (now (u .entry)) place tag) j a) ⌝ }
+{
+    let next = next_of(u, j, a, place, tag);
+    put(work, g, r, a, 0, next);
+    write_output(work, g, r, u, place, tag, j, a, next);
+}
+
+fn write_steps(work: &mut [u16], g: Grid, r: usize, u: &[u8], place: usize, tag: u8, j: usize)
+    requires { ⌜ Room g (now work) (rule (now u) place tag) ⌝ }
+    requires { ⌜ (r < g .rows) × (j ≤ length (now u)) ⌝ }
+    ensures { λ _. ⌜ Stepping g (now (work .entry)) (now (work .exit)) r (oneRule (rule (now (u .entry)) place tag)) j (g .tags) ⌝ }
+{
+    let tags = g.tags;
+    let mut a = 0;
+    while a < tags {
+        write_step(work, g, r, u, place, tag, j, a);
+        a += 1;
+    }
+}
+
+fn write_final(work: &mut [u16], g: Grid, r: usize, u: &[u8], place: usize, tag: u8, j: usize)
+    requires { ⌜ Room g (now work) (rule (now u) place tag) ⌝ }
+    requires { ⌜ (r < g .rows) × (j ≤ length (now u)) ⌝ }
+    ensures { λ _. ⌜ Written g (now (work .entry)) (now (work .exit)) r (g .tags) 7 (held (rule (now (u .entry)) place tag) j) ⌝ }
+{
+    clear(work, g, r, g.tags, 7);
+    if j == u.len() {
+        return;
+    }
+    push_part(work, g, r, g.tags, 7, u, lesser(place, j), j);
+}
+
+fn write_state(work: &mut [u16], g: Grid, r: usize, u: &[u8], place: usize, tag: u8, j: usize)
+    requires { ⌜ Room g (now work) (rule (now u) place tag) ⌝ }
+    requires { ⌜ (r < g .rows) × (j ≤ length (now u)) ⌝ }
+    ensures { λ _. ⌜ Rowed g (now (work .entry)) (now (work .exit)) r (oneRule (rule (now (u .entry)) place tag)) j ⌝ }
+{
+    write_steps(work, g, r, u, place, tag, j);
+    write_final(work, g, r, u, place, tag, j);
+}
+
+// The rule's transducer to the rows from `base`.
+pub fn write_rule(work: &mut [u16], g: Grid, base: usize, u: &[u8], place: usize, tag: u8)
+    requires { ⌜ Room g (now work) (rule (now u) place tag) ⌝ }
+    requires { ⌜ base + (length (now u) + 1) ≤ g .rows ⌝ }
+    ensures holds { λ _. ⌜ Holds g (now (work .exit)) base (ruleTable (g .tags) (rule (now (u .entry)) place tag)) ⌝ }
+    ensures kept { λ _. ⌜ Kept g (now (work .entry)) (now (work .exit)) (In-rows base (base + (length (now (u .entry)) + 1))) ⌝ }
+{
+    let mut j = 0;
+    while j <= u.len() {
+        write_state(work, g, base + j, u, place, tag, j);
+        j += 1;
+    }
+}

@@ -1,0 +1,3 @@
+-- Laws of the work slice.
+pub mod Cells
+pub mod Holds

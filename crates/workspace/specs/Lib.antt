@@ -1,0 +1,3 @@
+-- The lent slice of 16-bit numbers as rows, cells and entries.
+pub mod Cells
+pub mod Holds
