@@ -15,13 +15,13 @@ use Rattle.transducers.specs.Normalize.{front, fronts, stripped, normalize, Con
 use Rattle.transducers.proofs.Normalize.{fronts-any, doing-normalize}
 use Rattle.workspace.specs.declared.Grid.{Grid}
 use Rattle.workspace.specs.Cells.{at, word, Sized, Inner, Kept, In-rows, Spare, Written}
-use Rattle.workspace.specs.Holds.{StepAt, RowAt, Holds, tableAt, standing}
+use Rattle.workspace.specs.Holds.{Ready, StepAt, RowAt, Holds, tableAt, standing}
 use Rattle.workspace.proofs.Cells.{kept-then, kept-wider, word-kept, word-length, sized-kept}
 use Rattle.workspace.proofs.Holds.{step-kept, length-at, holds-doing}
-use Rattle.normalize.specs.Fronts.{size, frontAt, Ready, Fronted, Lowered, Settled, Started}
+use Rattle.normalize.specs.Fronts.{size, frontAt, Fronted, Lowered, Settled, Started}
 use Rattle.normalize.specs.Strip.{nextAt, strippedAt, Strip, Steps, Steps-stripped, Finals, Finals-stripped, Normalized}
 use Rattle.normalize.proofs.Meets.{take-prefix}
-use Rattle.normalize.proofs.Views.{in-table, row-below, final-is, final-size, final-inner, output-is, output-size, output-inner, next-is, next-below, next-at-below, same-table, ready-kept}
+use Rattle.workspace.proofs.Views.{in-table, row-below, final-is, final-size, final-inner, output-is, output-size, output-inner, next-is, next-below, next-at-below, same-table, ready-kept}
 use Rattle.normalize.proofs.Strips.{stripped-room}
 use Rattle.normalize.proofs.Lower.{fronted-lowered, fronted-start, above-start}
 
@@ -165,8 +165,8 @@ module _ (g : Grid) (W : List ℕ) (base n : ℕ) (ok : Ready g W base n) (X U Y
 
   same : tableAt g U base n ≡ tableAt g W base n
   same =
-      same-table g X base n (ready-kept g W base n ok X (started .kept)) U (settled .lowered .kept)
-      ∙ same-table g W base n ok X (started .kept)
+      same-table g X base n (ready-kept g W base n ok X 0 1 (omega arith) (started .kept)) U 0 1 (omega arith) (settled .lowered .kept)
+      ∙ same-table g W base n ok X 0 1 (omega arith) (started .kept)
 
   pub normalized : Steps-stripped g U Y base n → Finals-stripped g Y Z base n → Normalized g W Z base n
   normalized s f =

@@ -1,6 +1,5 @@
 -- Laws of normalization in the work slice.
 pub mod Meets
-pub mod Views
 pub mod Lower
 pub mod Strips
 pub mod Done

@@ -21,12 +21,12 @@ use Rattle.transducers.proofs.Rounds.{total-le, total-same}
 use Rattle.transducers.proofs.Normalize.{above-finals, above-lowered}
 use Rattle.workspace.specs.declared.Grid.{Grid}
 use Rattle.workspace.specs.Cells.{at, word, Kept, Entry, Spare, Put, Got}
-use Rattle.workspace.specs.Holds.{tableAt, standing}
+use Rattle.workspace.specs.Holds.{Ready, tableAt, standing}
 use Rattle.workspace.proofs.Cells.{kept-none, kept-then, kept-wider}
 use Rattle.workspace.proofs.Holds.{length-at}
-use Rattle.normalize.specs.Fronts.{size, frontAt, Ready, Fronted, Rests, Lowered, Lesser, Turn, Either, Settled, Started}
+use Rattle.normalize.specs.Fronts.{size, frontAt, Fronted, Rests, Lowered, Lesser, Turn, Either, Settled, Started}
 use Rattle.normalize.proofs.Meets.{meet-short, meet-stops, meet-goes, prefix-take, take-prefix}
-use Rattle.normalize.proofs.Views.{in-table, final-is, final-size, output-is, output-size, next-is, next-below, same-table, ready-kept}
+use Rattle.workspace.proofs.Views.{in-table, final-is, final-size, output-is, output-size, next-is, next-below, same-table, ready-kept}
 
 module _ (g : Grid) (W : List ℕ) (base n : ℕ) (ok : Fronted g W base n) where
   front-long : (q : ℕ) → q < n → length (frontAt g W base n q) ≡ size g W base q
@@ -104,7 +104,7 @@ module _ (g : Grid) (W : List ℕ) (base n : ℕ) (ok : Fronted g W base n) wher
               record {
                 kept = kept;
                 less = λ i hi. low i (ℕ-discrete i q);
-                above = λ up. subst (λ (t : Table). Above (g .tags) (shape t) (λ i. take (size g X base i) (shape t .final i))) (sym (same-table g W base n (ok .ready) X kept))
+                above = λ up. subst (λ (t : Table). Above (g .tags) (shape t) (λ i. take (size g X base i) (shape t .final i))) (sym (same-table g W base n (ok .ready) X 0 1 (omega arith) kept))
                     (above-lowered (g .tags) (standing g W base n) (frontAt g W base n) (λ i. take (size g X base i) (standing g W base n .final i)) up
                     (ok .ready .sound .next-below) (λ i hi. how i (ℕ-discrete i q)));
               };
@@ -145,8 +145,8 @@ module _ (g : Grid) (W : List ℕ) (base n : ℕ) (ok : Fronted g W base n) wher
   pub fronted-lowered : (X : List ℕ) → Lowered g W X base n → Fronted g X base n
   fronted-lowered X l =
       record {
-        ready = ready-kept g W base n (ok .ready) X (l .kept);
-        fronts = λ q h. rw (same-table g W base n (ok .ready) X (l .kept)) (omega (arith, l .less q h, ok .fronts q h));
+        ready = ready-kept g W base n (ok .ready) X 0 1 (omega arith) (l .kept);
+        fronts = λ q h. rw (same-table g W base n (ok .ready) X 0 1 (omega arith) (l .kept)) (omega (arith, l .less q h, ok .fronts q h));
       }
 
 module _ (g : Grid) (base n : ℕ) where
@@ -256,11 +256,11 @@ module _ (g : Grid) (W : List ℕ) (base n : ℕ) (ok : Ready g W base n) where
   pub fronted-start : (X : List ℕ) → Started g W X base n → Fronted g X base n
   fronted-start X s =
       record {
-        ready = ready-kept g W base n ok X (s .kept);
-        fronts = λ q h. rw (same-table g W base n ok X (s .kept)) (omega (arith, s .whole q h));
+        ready = ready-kept g W base n ok X 0 1 (omega arith) (s .kept);
+        fronts = λ q h. rw (same-table g W base n ok X 0 1 (omega arith) (s .kept)) (omega (arith, s .whole q h));
       }
 
   pub above-start : (X : List ℕ) → Started g W X base n → Above (g .tags) (standing g X base n) (frontAt g X base n)
   above-start X s =
-      subst (λ (t : Table). Above (g .tags) (shape t) (λ q. take (size g X base q) (shape t .final q))) (sym (same-table g W base n ok X (s .kept)))
+      subst (λ (t : Table). Above (g .tags) (shape t) (λ q. take (size g X base q) (shape t .final q))) (sym (same-table g W base n ok X 0 1 (omega arith) (s .kept)))
       (λ q h z all. rw (s .whole q (omega (arith, length-at g W base n)), take-length (standing g W base n .final q)) (all [] tt))

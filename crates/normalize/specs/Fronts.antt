@@ -6,11 +6,10 @@ use mathlib.Core.Bool.{Bool, true, false}
 use mathlib.Core.List.{List, _++_}
 use lib.ListN.{length, take}
 use Rattle.words.specs.Front.{Prefix}
-use Rattle.transducers.specs.Canonical.{Sound, Held}
 use Rattle.transducers.specs.Normalize.{Above}
 use Rattle.workspace.specs.declared.Grid.{Grid}
-use Rattle.workspace.specs.Cells.{at, Sized, Kept, Spare}
-use Rattle.workspace.specs.Holds.{Holds, tableAt, standing}
+use Rattle.workspace.specs.Cells.{at, Kept, Spare}
+use Rattle.workspace.specs.Holds.{Ready, standing}
 
 abbrev pub size : Grid → List ℕ → ℕ → ℕ → ℕ
 size g W base q = at g W (base + q) (g .tags) 0
@@ -18,17 +17,7 @@ size g W base q = at g W (base + q) (g .tags) 0
 abbrev pub frontAt : Grid → List ℕ → ℕ → ℕ → ℕ → List ℕ
 frontAt g W base n q = take (size g W base q) (standing g W base n .final q)
 
--- n rows hold a transducer whose words have room
-pub record Ready (g : Grid) (W : List ℕ) (base n : ℕ) : Type 0 where
-  pub sized : Sized g W
-  pub inside : base + n ≤ g .rows
-  pub holds : Holds g W base (tableAt g W base n)
-  pub sound : Sound (g .tags) (standing g W base n)
-  pub most : ℕ
-  pub held : Held most (standing g W base n)
-  pub room : most + 8 ≤ g .depth
-
--- and each front is a part of the final word
+-- n rows hold a transducer, and each front is a part of the final word
 pub record Fronted (g : Grid) (W : List ℕ) (base n : ℕ) : Type 0 where
   pub ready : Ready g W base n
   pub fronts : (q : ℕ) → q < n → size g W base q ≤ length (standing g W base n .final q)

@@ -15,8 +15,8 @@ ghost use mathlib.Core.List.{List, _++_};
 ghost use lib.ListN.{length, drop};
 ghost use Rattle.words.specs.Front.{meet};
 ghost use Rattle.workspace.specs.Cells.{at, word, Sized, Inner, Written};
-ghost use Rattle.workspace.specs.Holds.{Stepped, standing};
-ghost use Rattle.normalize.specs.Fronts.{size, frontAt, Ready, Fronted, Rests, Turn, Either, Settled, Started};
+ghost use Rattle.workspace.specs.Holds.{Ready, Stepped, standing};
+ghost use Rattle.normalize.specs.Fronts.{size, frontAt, Fronted, Rests, Turn, Either, Settled, Started};
 ghost use Rattle.normalize.specs.Strip.{nextAt, strippedAt, Strip, Row-stripped, Steps-stripped, Finals-stripped, Normalized};
 
 // What the front of q and the step on a, with the front behind it, have in common.

@@ -4,7 +4,10 @@ use native.Mathlib.Omega.{arith}
 use native.Mathlib.Nat.{mul-le-mul-right, suc-mul}
 use native.Mathlib.Numerals.{add-one}
 use native.Mathlib.Decide.{decLe, ℕ-discrete}
-use borrow.Author.Tests.{eq-eqb, ne-eqb}
+use borrow.Author.Tests.{eq-eqb, ne-eqb, eqb-true, eqb-false}
+use lib.Dec.{eqb}
+use mathlib.Core.Bool.{Bool, true, false}
+use Rattle.words.proofs.Front.{begins-refl, begins-length, begins-whole, meet-left, meet-right, meet-greatest}
 use mathlib.Core.Path.{_≡_, refl, sym, ap, ap₂, _∙_, subst}
 use mathlib.Core.List.{List, [], _∷_, _++_, append-assoc, append-nil}
 use lib.ListN.{length, getD, set, take, drop, length-append, length-set, length-drop, drop-of-length-le}
@@ -13,7 +16,7 @@ use Rattle.words.specs.Front.{meet}
 use Rattle.transducers.specs.Tabulate.{tabulate}
 use Rattle.transducers.proofs.Tabulate.{length-tabulate, getD-tabulate}
 use Rattle.workspace.specs.declared.Grid.{Grid}
-use Rattle.workspace.specs.Cells.{ix, at, write, word, Sized, In, Inner, Kept, Entry, Cell, Got, Put, Written, part}
+use Rattle.workspace.specs.Cells.{ix, at, write, word, Sized, In, Inner, Kept, Entry, Cell, Got, Put, Written, part, Decides}
 
 -- places in the slice
 
@@ -104,7 +107,7 @@ sized-kept g W X s e = record { room = omega (arith, s .room); rows-small = s .r
 
 -- words
 
-tabulate-same : (n i : ℕ) (f h : ℕ → ℕ) → ((e : ℕ) → i ≤ e → e < i + n → f e ≡ h e) → tabulate n i f ≡ tabulate n i h
+pub tabulate-same : (n i : ℕ) (f h : ℕ → ℕ) → ((e : ℕ) → i ≤ e → e < i + n → f e ≡ h e) → tabulate n i f ≡ tabulate n i h
 tabulate-same n i f h all =
     ext-getD 0 (tabulate n i f) (tabulate n i h) (length-tabulate n i f ∙ sym (length-tabulate n i h))
     (λ j lt.
@@ -357,3 +360,38 @@ module _ (g : Grid) (W : List ℕ) (r c s n : ℕ) (inner : Inner g W r c s) whe
 
 pub dropped-none : (g : Grid) (W : List ℕ) (r c s n : ℕ) → n ≡ 0 → Written g W W r c s (drop n (word g W r c s))
 dropped-none g W r c s n e = rw e (record { kept = kept-none g (Cell r c s) W; here = refl; size = sym (word-length g W r c s) })
+
+-- words are equal if they are as long as their common front
+pub words-decided : (g : Grid) (W : List ℕ) (r c s r2 c2 s2 n m : ℕ) → n ≡ at g W r c s → n ≡ at g W r2 c2 s2
+    → m ≡ length (meet (drop 0 (word g W r c s)) (take n (word g W r2 c2 s2))) → Decides (eqb m n) (word g W r c s ≡ word g W r2 c2 s2)
+words-decided g W r c s r2 c2 s2 n m long long2 is =
+    record { so = λ e. same (eqb-true m n e); not = λ e d. eqb-false m n e (whole d) }
+  where
+    u : List ℕ
+    u = word g W r c s
+
+    v : List ℕ
+    v = word g W r2 c2 s2
+
+    all : take n v ≡ v
+    all = take-all n v (omega (arith, word-length g W r2 c2 s2))
+
+    same : m ≡ n → u ≡ v
+    same e =
+        let size = is ∙ ap (λ (l : List ℕ). length (meet u l)) all in
+        sym (begins-whole (meet-left u v) (omega (arith, word-length g W r c s)))
+        ∙ begins-whole (meet-right u v) (omega (arith, word-length g W r2 c2 s2))
+
+    meet-self : (w : List ℕ) → meet w w ≡ w
+    meet-self w = begins-whole (meet-left w w) (begins-length (meet-greatest w w w (begins-refl w) (begins-refl w)))
+
+    whole : u ≡ v → m ≡ n
+    whole d = is ∙ ap (λ (l : List ℕ). length (meet u l)) (all ∙ sym d) ∙ ap length (meet-self u) ∙ word-length g W r c s ∙ sym long
+
+pub words-other : (g : Grid) (W : List ℕ) (r c s r2 c2 s2 n m : ℕ) → n ≡ at g W r c s → m ≡ at g W r2 c2 s2 → (n ≡ m → ⊥)
+    → Decides false (word g W r c s ≡ word g W r2 c2 s2)
+words-other g W r c s r2 c2 s2 n m long long2 other =
+    record {
+      so = λ e. let z : _≡_ {A = ℕ} 0 1 = cc in absurd (omega arith);
+      not = λ e d. other (long ∙ sym (word-length g W r c s) ∙ ap length d ∙ word-length g W r2 c2 s2 ∙ sym long2);
+    }

@@ -7,10 +7,10 @@ use mathlib.Core.List.{List}
 use lib.ListN.{length}
 use Rattle.transducers.specs.Transducer.{Shape}
 use Rattle.transducers.specs.Table.{Table, shape}
-use Rattle.transducers.specs.Canonical.{Inside}
+use Rattle.transducers.specs.Canonical.{Inside, Sound, Held}
 use Rattle.transducers.specs.Tabulate.{table, Rows}
 use Rattle.workspace.specs.declared.Grid.{Grid}
-use Rattle.workspace.specs.Cells.{at, word, Kept, Cell, In-rows}
+use Rattle.workspace.specs.Cells.{at, word, Sized, Kept, Cell, In-rows}
 
 -- a cell holds a step
 pub record StepAt (g : Grid) (W : List ℕ) (r a next : ℕ) (output : List ℕ) : Type 0 where
@@ -70,3 +70,13 @@ pub record Stepping (g : Grid) (W X : List ℕ) (r : ℕ) (S : Shape) (q a : ℕ
 pub record Filling (g : Grid) (W X : List ℕ) (base n : ℕ) (S : Shape) (j : ℕ) : Type 0 where
   pub kept : Kept g W X (In-rows base (base + n))
   pub states : (q : ℕ) → q < j → RowAt g X (base + q) S q
+
+-- n rows hold a transducer whose words have room
+pub record Ready (g : Grid) (W : List ℕ) (base n : ℕ) : Type 0 where
+  pub sized : Sized g W
+  pub inside : base + n ≤ g .rows
+  pub holds : Holds g W base (tableAt g W base n)
+  pub sound : Sound (g .tags) (standing g W base n)
+  pub most : ℕ
+  pub held : Held most (standing g W base n)
+  pub room : most + 8 ≤ g .depth

@@ -5,7 +5,7 @@ ghost use mathlib.Core.List.{List, [], _∷_, _++_};
 ghost use mathlib.Core.Bool.{true, false};
 ghost use lib.ListN.{length, drop, take};
 ghost use Rattle.words.specs.Front.{meet};
-ghost use Rattle.workspace.specs.Cells.{ix, at, word, Sized, In, Inner, Got, Put, Written, part};
+ghost use Rattle.workspace.specs.Cells.{ix, at, word, Sized, In, Inner, Got, Put, Written, part, Decides};
 
 // Each row has a cell for every tag and one more.
 pub struct Grid {
@@ -171,4 +171,27 @@ pub fn common(
         i += 1;
     }
     i
+}
+
+// Whether two words are equal.
+pub fn same_words(
+    work: &[u16],
+    g: Grid,
+    r: usize,
+    c: usize,
+    s: usize,
+    r2: usize,
+    c2: usize,
+    s2: usize,
+) -> bool
+    requires { ⌜ Sized g (now work) ⌝ }
+    requires { ⌜ Inner g (now work) r c s ⌝ }
+    requires { ⌜ Inner g (now work) r2 c2 s2 ⌝ }
+    ensures { λ b. ⌜ Decides b (word g (now (work .entry)) r c s ≡ word g (now (work .entry)) r2 c2 s2) ⌝ }
+{
+    let n = get(work, g, r, c, s);
+    if n != get(work, g, r2, c2, s2) {
+        return false;
+    }
+    common(work, g, r, c, s, 0, r2, c2, s2, n) == n
 }

@@ -3,7 +3,7 @@ use Rattle.workspace.specs.Holds.{standing}
 use mathlib.Core.List.{_++_}
 use Prim.Native.Nat.{_<_}
 use Rattle.normalize.proofs.Lower.{front-short, front-stops, front-goes, meeting-le}
-use Rattle.normalize.proofs.Views.{row-below, final-inner, output-inner, final-size, output-size, next-at-below}
+use Rattle.workspace.proofs.Views.{row-below, final-inner, output-inner, final-size, output-size, next-at-below}
 use native.Mathlib.Omega.{arith}
 use borrow.Author.Needs.{needs}
 use Rattle.normalize.proofs.meeting.Statement.{statement}

@@ -1,5 +1,5 @@
 use Rattle.normalize.proofs.Lower.{Starting, starting-none, starting-next}
-use Rattle.normalize.proofs.Views.{row-below}
+use Rattle.workspace.proofs.Views.{row-below}
 use native.Mathlib.Omega.{arith}
 use Prim.Native.Nat.{ℕ, _-_, _≤_}
 use borrow.Author.Needs.{needs}

@@ -9,7 +9,6 @@ use Rattle.onerule.proofs.write_final.Statement.{statement}
 use Rattle.onerule.proofs.write_final.Tie as tie
 use Rattle.onerule.proofs.write_final.Reads as reads
 use Rattle.onerule.proofs.write_final.Lts as lts
-use Rattle.onerule.proofs.lesser.Reads as lesser-reads
 use Rattle.onerule.proofs.push_part.Reads as push-part-reads
 use Rattle.workspace.proofs.clear.Reads as clear-reads
 

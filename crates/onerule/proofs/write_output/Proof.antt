@@ -11,7 +11,6 @@ use Rattle.onerule.proofs.write_output.Statement.{statement}
 use Rattle.onerule.proofs.write_output.Tie as tie
 use Rattle.onerule.proofs.write_output.Reads as reads
 use Rattle.onerule.proofs.write_output.Lts as lts
-use Rattle.onerule.proofs.lesser.Reads as lesser-reads
 use Rattle.onerule.proofs.push_part.Reads as push-part-reads
 use Rattle.onerule.proofs.wide.Reads as wide-reads
 use Rattle.workspace.proofs.clear.Reads as clear-reads

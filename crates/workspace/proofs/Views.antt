@@ -6,12 +6,11 @@ use mathlib.Core.List.{List, _++_}
 use lib.ListN.{length}
 use Rattle.transducers.specs.Transducer.{Shape}
 use Rattle.transducers.specs.Table.{Table, shape}
 use Rattle.workspace.specs.declared.Grid.{Grid}
 use Rattle.workspace.specs.Cells.{at, word, Sized, Inner, Kept, Spare}
-use Rattle.workspace.specs.Holds.{StepAt, Holds, tableAt, standing}
+use Rattle.workspace.specs.Holds.{StepAt, Holds, Ready, tableAt, standing}
 use Rattle.workspace.proofs.Cells.{word-length, sized-kept}
 use Rattle.workspace.proofs.Holds.{holds-kept, length-at, table-at}
-use Rattle.normalize.specs.Fronts.{Ready}
 
 module _ (g : Grid) (W : List ℕ) (base n : ℕ) (ok : Ready g W base n) where
   pub in-table : (q : ℕ) → q < n → q < length (tableAt g W base n)
@@ -51,11 +50,11 @@ module _ (g : Grid) (W : List ℕ) (base n : ℕ) (ok : Ready g W base n) where
     next-at-below = omega (arith, next-is, next-below)
 
   -- notes leave the transducer
-  module _ (X : List ℕ) (kept : Kept g W X (Spare g base (base + n) 0 1)) where
+  module _ (X : List ℕ) (lo hi : ℕ) (spare : hi ≤ 7) (kept : Kept g W X (Spare g base (base + n) lo hi)) where
     still : Holds g X base (tableAt g W base n)
     still =
-        holds-kept g (Spare g base (base + n) 0 1) W X kept base (tableAt g W base n) (ok .holds)
-        (λ q a e hq ha i. omega (arith, i .2)) (λ q e hq he i. omega (arith, i .4))
+        holds-kept g (Spare g base (base + n) lo hi) W X kept base (tableAt g W base n) (ok .holds)
+        (λ q a e hq ha i. omega (arith, i .2)) (λ q e hq he i. omega (arith, i .4, spare))
 
     pub same-table : tableAt g X base n ≡ tableAt g W base n
     same-table = table-at g X base n (tableAt g W base n) still (length-at g W base n)

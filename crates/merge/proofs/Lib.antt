@@ -1,0 +1,4 @@
+-- Laws of merging in the work slice.
+pub mod Keys
+pub mod Names
+pub mod Rounds

@@ -1,0 +1,2 @@
+-- Merging in the work slice.
+pub mod Classes

@@ -1,0 +1,193 @@
+// Merging: a class for each state, named by the least of the states that still put out the same.
+// Time grows with the number of rounds (in practice a few) times the states times the tags times the names tried for a state,
+// which are those of the new classes within its old one.
+// The idea is Moore's: states are told apart by what they put out at a step, then by where the step leads, until no class splits.
+use workspace::Grid;
+use workspace::get;
+use workspace::put;
+use workspace::same_words;
+ghost use mathlib.Core.Path.{_≡_};
+ghost use Prim.Native.Nat.{ℕ, _+_, _≤_, _<_};
+ghost use mathlib.Core.Bool.{true, false};
+ghost use Rattle.workspace.specs.Cells.{Decides, Kept, Spare};
+ghost use Rattle.workspace.specs.Holds.{Ready, standing};
+ghost use Rattle.transducers.specs.Canonical.{Early};
+ghost use Rattle.merge.specs.Classes.{classOf, newOf, Words, Nexts, Key, Part, Parted, Found, Placed, Named, Differs, Taken, Round, Alone, Merged};
+
+pub struct Walked {
+    pub at: usize,
+    pub hit: bool,
+}
+
+fn same_outputs(work: &[u16], g: Grid, base: usize, n: usize, p: usize, q: usize) -> bool
+    requires { ⌜ Ready g (now work) base n ⌝ }
+    requires { ⌜ (p < n) × (q < n) ⌝ }
+    ensures { λ b. ⌜ Decides b ((a : ℕ) → a < g .tags → standing g (now (work .entry)) base n .output p a ≡ standing g (now (work .entry)) base n .output q a) ⌝ }
+{
+    let tags = g.tags;
+    let mut a = 0;
+    while a < tags {
+        if !same_words(work, g, base + p, a, 1, base + q, a, 1) {
+            return false;
+        }
+        a += 1;
+    }
+    true
+}
+
+fn same_nexts(work: &[u16], g: Grid, base: usize, n: usize, p: usize, q: usize) -> bool
+    requires { ⌜ Ready g (now work) base n ⌝ }
+    requires { ⌜ (p < n) × (q < n) ⌝ }
+    ensures { λ b. ⌜ Decides b (Nexts g (now (work .entry)) base n p q) ⌝ }
+{
+    let tags = g.tags;
+    let mut a = 0;
+    while a < tags {
+        let p2 = get(work, g, base + p, a, 0);
+        let q2 = get(work, g, base + q, a, 0);
+        if get(work, g, base + p2, g.tags, 1) != get(work, g, base + q2, g.tags, 1) {
+            return false;
+        }
+        a += 1;
+    }
+    true
+}
+
+// Whether p and q are alike: at first by the words that they put out, then by the classes of their next states.
+fn alike(work: &[u16], g: Grid, base: usize, n: usize, p: usize, q: usize, first: bool) -> bool
+    requires { ⌜ Ready g (now work) base n ⌝ }
+    requires { ⌜ (p < n) × (q < n) ⌝ }
+    ensures { λ b. ⌜ Decides b (Key g (now (work .entry)) base n first p q) ⌝ }
+{
+    if !first {
+        return same_nexts(work, g, base, n, p, q);
+    }
+    if !same_words(work, g, base + p, g.tags, 7, base + q, g.tags, 7) {
+        return false;
+    }
+    same_outputs(work, g, base, n, p, q)
+}
+
+// The names within the class of q, from the least on, as far as one that is alike.
+fn find_name(
+    work: &[u16],
+    g: Grid,
+    base: usize,
+    n: usize,
+    q: usize,
+    c: usize,
+    first: bool,
+) -> Walked
+    requires { ⌜ Parted g (now work) base n first q ⌝ }
+    requires { ⌜ (q < n) × (c < q) × (c ≡ classOf g (now work) base q) ⌝ }
+    ensures { λ w. ⌜ Found g (now (work .entry)) base n first q w ⌝ }
+{
+    let mut p = c;
+    while !alike(work, g, base, n, p, q, first) {
+        let next = get(work, g, base + p, g.tags, 3);
+        if next == 0 {
+            return Walked { at: p, hit: false };
+        }
+        p = next;
+    }
+    Walked { at: p, hit: true }
+}
+
+fn name_new(work: &mut [u16], g: Grid, base: usize, n: usize, q: usize)
+    requires { ⌜ Ready g (now work) base n ⌝ }
+    requires { ⌜ q < n ⌝ }
+    ensures { λ _. ⌜ Named g (now (work .entry)) (now (work .exit)) base q ⌝ }
+{
+    put(work, g, base + q, g.tags, 2, q);
+    put(work, g, base + q, g.tags, 3, 0);
+}
+
+// The new class of q.
+fn place(work: &mut [u16], g: Grid, base: usize, n: usize, q: usize, first: bool)
+    requires { ⌜ Parted g (now work) base n first q ⌝ }
+    requires { ⌜ q < n ⌝ }
+    ensures { λ _. ⌜ Placed g (now (work .entry)) (now (work .exit)) base n first (q + 1) ⌝ }
+{
+    let c = get(work, g, base + q, g.tags, 1);
+    if c == q {
+        name_new(work, g, base, n, q);
+        return;
+    }
+    let w = find_name(work, g, base, n, q, c, first);
+    let at = w.at;
+    if w.hit {
+        put(work, g, base + q, g.tags, 2, at);
+        return;
+    }
+    put(work, g, base + at, g.tags, 3, q);
+    name_new(work, g, base, n, q);
+}
+
+fn split(work: &mut [u16], g: Grid, base: usize, n: usize, first: bool)
+    requires { ⌜ Part g (now work) base n ⌝ }
+    ensures { λ _. ⌜ Placed g (now (work .entry)) (now (work .exit)) base n first n ⌝ }
+{
+    let mut q = 0;
+    while q < n {
+        place(work, g, base, n, q, first);
+        q += 1;
+    }
+}
+
+fn differs(changed: bool, c: usize, d: usize) -> bool
+    ensures { λ r. ⌜ Differs changed c d r ⌝ }
+{
+    if c != d {
+        return true;
+    }
+    changed
+}
+
+fn take_over(work: &mut [u16], g: Grid, base: usize, n: usize) -> bool
+    requires { ⌜ Ready g (now work) base n ⌝ }
+    ensures { λ changed. ⌜ Taken g (now (work .entry)) (now (work .exit)) base n n changed ⌝ }
+{
+    let mut changed = false;
+    let mut q = 0;
+    while q < n {
+        let c = get(work, g, base + q, g.tags, 1);
+        let d = get(work, g, base + q, g.tags, 2);
+        put(work, g, base + q, g.tags, 1, d);
+        changed = differs(changed, d, c);
+        q += 1;
+    }
+    changed
+}
+
+fn round(work: &mut [u16], g: Grid, base: usize, n: usize, first: bool) -> bool
+    requires { ⌜ Part g (now work) base n ⌝ }
+    ensures { λ changed. ⌜ Round g (now (work .entry)) (now (work .exit)) base n first changed ⌝ }
+{
+    split(work, g, base, n, first);
+    take_over(work, g, base, n)
+}
+
+fn start_classes(work: &mut [u16], g: Grid, base: usize, n: usize)
+    requires { ⌜ Ready g (now work) base n ⌝ }
+    ensures { λ _. ⌜ Alone g (now (work .entry)) (now (work .exit)) base n n ⌝ }
+{
+    let mut q = 0;
+    while q < n {
+        put(work, g, base + q, g.tags, 1, 0);
+        q += 1;
+    }
+}
+
+// The classes of the n states in the rows from `base`, each in entry 1 of its row's last cell.
+pub fn merge(work: &mut [u16], g: Grid, base: usize, n: usize)
+    requires { ⌜ Ready g (now work) base n ⌝ }
+    requires { ⌜ Early (g .tags) (standing g (now work) base n) ⌝ }
+    ensures { λ _. ⌜ Merged g (now (work .entry)) (now (work .exit)) base n ⌝ }
+{
+    start_classes(work, g, base, n);
+    round(work, g, base, n, true);
+    let mut going = true;
+    while going {
+        going = round(work, g, base, n, false);
+    }
+}
