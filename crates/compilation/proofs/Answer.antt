@@ -136,13 +136,13 @@ enough-answer book n work room c e h =
     )
 
 -- a reading's refusal names a byte
-abbrev NamesByte : Outcome Cascade → Type 0
+abbrev pub NamesByte : Outcome Cascade → Type 0
 NamesByte (result c) = Unit {0}
 NamesByte (refused n nothing) = ⊥
 NamesByte (refused n (byte b)) = Unit {0}
 NamesByte (refused n (rule i)) = ⊥
 
-names-byte : (s : Stage) (at : ℕ) (bs : List ℕ) → NamesByte (readFrom s at bs)
+pub names-byte : (s : Stage) (at : ℕ) (bs : List ℕ) → NamesByte (readFrom s at bs)
 names-byte opening at [] = tt
 names-byte size at [] = tt
 names-byte (command k rs) at [] = tt

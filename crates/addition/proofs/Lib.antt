@@ -1,0 +1,2 @@
+-- Laws of one more rule.
+pub mod Phases

@@ -1,0 +1,93 @@
+-- `addition::add_rule` meets its contract: the laws of the phases, one behind the other.
+use native.Mathlib.Omega.{arith}
+use borrow.Author.Needs.{needs}
+use Rattle.onerule.specs.Rule.{rule}
+use Rattle.cascades.specs.Rule.{Rule}
+use Rattle.addition.proofs.Phases.{composable, ready-composed, ready-normalized, early-normalized, is-classed, added}
+use Rattle.addition.proofs.add_rule.Statement.{statement}
+use Rattle.addition.proofs.add_rule.Tie as tie
+use Rattle.addition.proofs.add_rule.Reads as reads
+use Rattle.addition.proofs.add_rule.Lts as lts
+use Rattle.compose.proofs.compose.Reads as compose-reads
+use Rattle.merge.proofs.merge.Reads as merge-reads
+use Rattle.normalize.proofs.normalize.Reads as normalize-reads
+use Rattle.number.proofs.number.Reads as number-reads
+use Rattle.onerule.proofs.write_rule.Reads as write-rule-reads
+
+abbrev the-rule : tie.Start → Rule
+the-rule st = rule (st .args .u .now) (st .args .place) (st .args .tag)
+
+-- src/lib.rt:22:18
+mul-second : tie.Need-mul-second
+mul-second c = search needs
+
+-- src/lib.rt:23:13
+add-m : tie.Need-add-m
+add-m c = search needs
+
+-- src/lib.rt:24:5
+write-rule-requires : tie.Need-write-rule-requires
+write-rule-requires c κs = search needs
+
+-- src/lib.rt:25:9
+compose-requires : tie.Need-compose-requires
+compose-requires c κs =
+    let st = c .before .before .before .before .before .before .before in
+    let w = c .before .before .before .write-rule in
+    composable (st .args .g) (st .args .work .now) (st .args .n) (st .args .ceiling) (the-rule st) (st .pre) _ (w .ensures .0) (w .ensures .1)
+
+-- src/lib.rt:26:5
+normalize-requires : tie.Need-normalize-requires
+normalize-requires c κs =
+    let st = c .before .before .before .before .before .before .before .before .before .before .before in
+    let w = c .before .before .before .before .before .before .before .write-rule in
+    let d = c .before .before .before .compose in
+    ready-composed (st .args .g) (st .args .work .now) (st .args .n) (st .args .ceiling) (the-rule st) (st .pre) _ (w .ensures .0) (w .ensures .1) _ _ (d .ensures .0) (d .ensures .1)
+
+-- src/lib.rt:27:5
+merge-requires : tie.Need-merge-requires
+merge-requires c κs =
+    let st = c .before .before .before .before .before .before .before .before .before .before .before .before .before .before .before in
+    let w = c .before .before .before .before .before .before .before .before .before .before .before .write-rule in
+    let d = c .before .before .before .before .before .before .before .compose in
+    let e = c .before .before .before .normalize in
+    (ready-normalized (st .args .g) (st .args .work .now) (st .args .n) (st .args .ceiling) (the-rule st) (st .pre) _ (w .ensures .0) (w .ensures .1) _ _ (d .ensures .0) (d .ensures .1) _ (e .ensures), early-normalized (st .args .g) (st .args .work .now) (st .args .n) (st .args .ceiling) (the-rule st) (st .pre) _ (w .ensures .0) (w .ensures .1) _ _ (d .ensures .0) (d .ensures .1) _ (e .ensures))
+
+-- src/lib.rt:28:5
+number-requires : tie.Need-number-requires
+number-requires c κs =
+    let st = c .before .before .before .before .before .before .before .before .before .before .before .before .before .before .before .before .before .before .before in
+    let w = c .before .before .before .before .before .before .before .before .before .before .before .before .before .before .before .write-rule in
+    let d = c .before .before .before .before .before .before .before .before .before .before .before .compose in
+    let e = c .before .before .before .before .before .before .before .normalize in
+    let m = c .before .before .before .merge in
+    (is-classed (st .args .g) (st .args .work .now) (st .args .n) (st .args .ceiling) (the-rule st) (st .pre) _ (w .ensures .0) (w .ensures .1) _ _ (d .ensures .0) (d .ensures .1) _ (e .ensures) _ (m .ensures), omega arith)
+
+-- src/lib.rt:10:1
+same-length : tie.Need-same-length
+same-length c = search needs
+
+-- src/lib.rt:10:1
+returns : tie.Need-returns
+returns c =
+    let st = c .before .before .before .before .before .before .before .before .before .before .before .before .before .before .before .before .before .before .before .before .before .before in
+    let w = c .before .before .before .before .before .before .before .before .before .before .before .before .before .before .before .before .before .before .write-rule in
+    let d = c .before .before .before .before .before .before .before .before .before .before .before .before .before .before .compose in
+    let e = c .before .before .before .before .before .before .before .before .before .before .normalize in
+    let m = c .before .before .before .before .before .before .merge in
+    let u = c .before .before .number in
+    added (st .args .g) (st .args .work .now) (st .args .n) (st .args .ceiling) (the-rule st) (st .pre) _ (w .ensures .0) (w .ensures .1) _ _ (d .ensures .0) (d .ensures .1) _ (e .ensures) _ (m .ensures) _ _ (u .ensures)
+
+pub add-rule-spec : {M : Type 1} → statement M
+add-rule-spec =
+    tie.close
+    (tie.spec
+    mul-second
+    add-m
+    write-rule-requires
+    compose-requires
+    normalize-requires
+    merge-requires
+    number-requires
+    same-length
+    returns)

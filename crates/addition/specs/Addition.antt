@@ -1,0 +1,38 @@
+-- One more rule: the table in the rows from 0 becomes the one with the rule added, if that has no more states than the ceiling.
+use Prim.Native.Nat.{ℕ, _+_, _-_, _*_, _≤_}
+use mathlib.Core.Path.{_≡_}
+use mathlib.Core.List.{List}
+use lib.ListN.{length}
+use Rattle.limits.specs.Limits.{longest-pattern}
+use Rattle.cascades.specs.Rule.{Rule, ValidRule}
+use Rattle.transducers.specs.Table.{Table, shape}
+use Rattle.transducers.specs.Canonical.{Canonical}
+use Rattle.transducers.specs.Tabulate.{Doing}
+use Rattle.minimal.specs.OneRule.{ruleTable}
+use Rattle.minimal.specs.TableOf.{add}
+use Rattle.workspace.specs.declared.Grid.{Grid}
+use Rattle.workspace.specs.Cells.{Sized, Kept, In-rows}
+use Rattle.workspace.specs.Holds.{Holds, tableAt}
+
+-- the rows from 0 hold a canonical table, and there is room for its composition with the rule
+pub record Addable (g : Grid) (W : List ℕ) (n ceiling : ℕ) (r : Rule) : Type 0 where
+  pub sized : Sized g W
+  pub rows : 16 * ceiling ≤ g .rows
+  pub some : 1 ≤ ceiling
+  pub few : n ≤ ceiling
+  pub holds : Holds g W 0 (tableAt g W 0 n)
+  pub most : ℕ
+  pub makes : List ℕ → List ℕ
+  pub doing : Doing (g .tags) most makes (tableAt g W 0 n)
+  pub canonical : Canonical (g .tags) (shape (tableAt g W 0 n))
+  pub deep : most + (longest-pattern - 1) + 8 ≤ g .depth
+  pub valid : ValidRule longest-pattern (g .tags) r
+
+abbrev pub more : Grid → List ℕ → ℕ → Rule → Table
+more g W n r = add (g .tags) (tableAt g W 0 n) (ruleTable (g .tags) r)
+
+-- the number of states of the table with the rule added, and that table if the states are no more than the ceiling
+pub record Added (g : Grid) (W X : List ℕ) (n ceiling : ℕ) (r : Rule) (count : ℕ) : Type 0 where
+  pub count-is : count ≡ length (more g W n r)
+  pub kept : Kept g W X (In-rows 0 (g .rows))
+  pub holds : count ≤ ceiling → Holds g X 0 (more g W n r)

@@ -1,0 +1,2 @@
+-- One more rule in the work slice.
+pub mod Addition

@@ -1,0 +1,3 @@
+-- The compile call.
+pub mod Answer
+pub mod Rules

@@ -1,0 +1,2 @@
+-- Laws of the identity's row.
+pub mod Row

@@ -1,0 +1,1 @@
+-- The identity in the work slice: its contracts are in the words of workspace and minimal.

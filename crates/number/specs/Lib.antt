@@ -1,0 +1,3 @@
+-- Numbering in the work slice.
+pub mod Order
+pub mod Numbering

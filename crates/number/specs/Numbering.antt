@@ -1,0 +1,42 @@
+-- The numbered table, written to other rows.
+use Prim.Native.Nat.{ℕ, _+_, _≤_, _<_}
+use mathlib.Core.Path.{_≡_}
+use mathlib.Core.Logic.{_⊎_}
+use mathlib.Core.List.{List}
+use lib.ListN.{length, getD}
+use Rattle.transducers.specs.Transducer.{Shape}
+use Rattle.transducers.specs.Table.{shape}
+use Rattle.transducers.specs.Number.{order, numbered, number}
+use Rattle.workspace.specs.declared.Grid.{Grid}
+use Rattle.workspace.specs.Cells.{at, Sized, Kept, In-rows, Spare}
+use Rattle.workspace.specs.Holds.{Holds}
+use Rattle.number.specs.Order.{Classed, mergedAt, listed, Marked}
+
+-- the list is the order
+pub record Ordered (g : Grid) (W : List ℕ) (base n count : ℕ) : Type 0 where
+  pub classed : Classed g W base n
+  pub is : listed g W base count ≡ order (mergedAt g W base n)
+  pub marked : Marked g W base n (order (mergedAt g W base n))
+  pub low : count ≤ n
+
+-- the numbered transducer
+abbrev pub numberedAt : Grid → List ℕ → ℕ → ℕ → Shape
+numberedAt g W base n = numbered (shape (mergedAt g W base n)) (order (mergedAt g W base n))
+
+-- q is the i-th state, and its row goes to the i-th of the rows before
+pub record Rowing (g : Grid) (W : List ℕ) (base n count to i q : ℕ) : Type 0 where
+  pub ordered : Ordered g W base n count
+  pub before : to + count ≤ base
+  pub place : i < count
+  pub state : q ≡ getD (order (mergedAt g W base n)) i 0
+
+-- some rows, and the notes of the order
+abbrev pub Rows-notes : Grid → ℕ → ℕ → ℕ → ℕ → ℕ → ℕ → ℕ → Type 0
+Rows-notes g to ceiling base n r c e = In-rows to (to + ceiling) r c e ⊎ Spare g base (base + n) 4 6 r c e
+
+-- the number of states, and the numbered table in the rows before if they are no more than the ceiling; else only notes have changed
+pub record Numbered (g : Grid) (W X : List ℕ) (base n to ceiling count : ℕ) : Type 0 where
+  pub count-is : count ≡ length (order (mergedAt g W base n))
+  pub kept : Kept g W X (Rows-notes g to ceiling base n)
+  pub many : ceiling < count → Kept g W X (Spare g base (base + n) 4 6)
+  pub holds : count ≤ ceiling → Holds g X to (number (g .tags) (mergedAt g W base n))
