@@ -1,19 +1,16 @@
 -- The list of states that a search has come to, and their marks.
 use Prim.Native.Nat.{ℕ, zero, suc, _+_, _-_, _≤_, _<_}
 use native.Mathlib.Omega.{arith}
-use native.Mathlib.Decide.{ℕ-discrete}
 use native.Mathlib.Numerals.{add-one}
-use mathlib.Core.Path.{_≡_, refl, sym, ap, _∙_, subst}
+use mathlib.Core.Path.{_≡_, refl, sym, ap, _∙_}
 use mathlib.Core.Bool.{Bool, true, false, true≢false}
 use mathlib.Core.List.{List, [], _∷_, _++_}
 use lib.ListN.{length, getD, drop, length-append, drop-of-length-le}
 use lib.Seq.{drop-cons}
 use lib.Dec.{eqb, ltb}
-use borrow.Author.Tests.{eqb-true, eqb-false, eq-eqb, ne-eqb, ltb-true, ltb-false, lt-ltb, le-ltb}
-use Rattle.transducers.specs.Table.{Step, Table, no-step, row, step, shape}
-use Rattle.transducers.specs.Number.{place, note, noteAll, visit, order}
-use Rattle.transducers.proofs.Find.{find-le}
-use Rattle.transducers.proofs.Number.{note-length, noteAll-length, visit-kept}
+use borrow.Author.Tests.{eq-eqb, ne-eqb, ltb-true, ltb-false, lt-ltb, le-ltb}
+use Rattle.transducers.specs.Table.{Step, Table, no-step, row}
+use Rattle.transducers.specs.Number.{place, note, noteAll, visit}
 use Rattle.number.specs.Order.{mark}
 
 -- a marked state is in the list, and is not put behind it again

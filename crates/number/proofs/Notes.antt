@@ -11,17 +11,16 @@ use lib.Seq.{ext-getD, getD-append-seam}
 use lib.Dec.{ltb}
 use mathlib.Core.Bool.{false}
 use Rattle.words.proofs.Word.{below-suc}
-use Rattle.transducers.specs.Transducer.{Shape, puts}
-use Rattle.transducers.specs.Table.{Step, Table, no-step, row, shape}
-use Rattle.transducers.specs.Canonical.{Sound}
-use Rattle.transducers.specs.Tabulate.{tabulate, table, Rows, Doing}
+use Rattle.transducers.specs.Transducer.{puts}
+use Rattle.transducers.specs.Table.{Table, row, shape}
+use Rattle.transducers.specs.Tabulate.{table, Doing}
 use Rattle.transducers.specs.Merge.{class, classes, merged, merge}
 use Rattle.transducers.specs.Number.{place, note, noteAll, visit, order}
-use Rattle.transducers.proofs.Tabulate.{length-tabulate, at-tabulate, length-table, rows-table, agree-table}
+use Rattle.transducers.proofs.Tabulate.{length-tabulate, at-tabulate, length-table, agree-table}
 use Rattle.transducers.proofs.Merge.{classes-are, doing-merge}
-use Rattle.transducers.proofs.Number.{note-length, noteAll-length, visit-kept, order-below, order-length}
+use Rattle.transducers.proofs.Number.{noteAll-length, visit-kept, order-below, order-length}
 use Rattle.workspace.specs.declared.Grid.{Grid}
-use Rattle.workspace.specs.Cells.{at, Sized, Kept, Spare, Entry, Got, Put}
+use Rattle.workspace.specs.Cells.{at, Kept, Spare, Entry, Got, Put}
 use Rattle.workspace.specs.Holds.{Holds, tableAt, standing}
 use Rattle.workspace.proofs.Cells.{kept-none, kept-then, kept-wider, sized-kept}
 use Rattle.workspace.proofs.Holds.{holds-kept, table-at, length-at}

@@ -1,28 +1,27 @@
 -- The numbered rows, step by step and row by row.
 use Prim.Native.Nat.{ℕ, suc, _+_, _-_, _≤_, _<_}
 use native.Mathlib.Omega.{arith}
-use mathlib.Core.Path.{_≡_, refl, sym, ap, _∙_, subst}
-use mathlib.Core.Logic.{_⊎_, inl, inr}
-use mathlib.Core.List.{List, [], _∷_, _++_}
+use mathlib.Core.Path.{_≡_, sym, ap, _∙_, subst}
+use mathlib.Core.Logic.{inl, inr}
+use mathlib.Core.List.{List, [], _++_}
 use lib.ListN.{length, getD}
 use lib.Seq.{ext-getD}
-use Rattle.transducers.specs.Transducer.{Shape, puts}
+use Rattle.transducers.specs.Transducer.{puts}
 use Rattle.transducers.specs.Table.{Table, row, shape}
-use Rattle.transducers.specs.Canonical.{Sound}
-use Rattle.transducers.specs.Tabulate.{table, Doing}
+use Rattle.transducers.specs.Tabulate.{Doing}
 use Rattle.transducers.specs.Merge.{class, classes, merged, merge}
 use Rattle.transducers.specs.Number.{place, order, numbered, number}
 use Rattle.transducers.proofs.Tabulate.{agree-table, length-table}
 use Rattle.transducers.proofs.Number.{doing-number}
 use Rattle.workspace.specs.declared.Grid.{Grid}
-use Rattle.workspace.specs.Cells.{at, word, Sized, Inner, Kept, In-rows, Spare, Cell, Got, Put, Written}
-use Rattle.workspace.specs.Holds.{StepAt, Stepped, RowAt, Rowed, Roomy, Holds, Stepping, Filling, tableAt, standing}
+use Rattle.workspace.specs.Cells.{at, word, Inner, Kept, In-rows, Spare, Cell, Got, Put, Written}
+use Rattle.workspace.specs.Holds.{Stepped, Rowed, Roomy, Holds, Stepping, Filling, tableAt, standing}
 use Rattle.workspace.proofs.Cells.{kept-none, kept-then, kept-wider, sized-kept, word-length, word-kept, written-more}
 use Rattle.workspace.proofs.Holds.{holds-kept, table-at, length-at, stepped-after, stepping-start, stepping-next, stepping-end, filling-start, filling-next, holds-doing}
 use Rattle.number.specs.Order.{Classed, mergedAt, listed, mark, Marked, Lists}
 use Rattle.number.specs.Numbering.{Ordered, numberedAt, Rowing, Rows-notes, Numbered}
 use Rattle.number.proofs.Lists.{mark-place}
-use Rattle.number.proofs.Notes.{listed-length, listed-at, merged-doing, merged-length, order-most, order-low, merged-same, classed-kept}
+use Rattle.number.proofs.Notes.{listed-length, listed-at, merged-doing, order-most, order-low, merged-same, classed-kept}
 
 -- a word is copied to a cell that was cleared
 module _ (g : Grid) (W X : List ℕ) (r c s r2 : ℕ) (inner : Inner g W r c s) (lt : r2 < r) (clear : Written g W X r2 c s []) where
@@ -134,9 +133,6 @@ module _ (g : Grid) (base n : ℕ) where
 
   -- the i-th state's row
   module _ (W : List ℕ) (count to i q : ℕ) (ok : Rowing g W base n count to i q) where
-    C : Classed g W base n
-    C = ok .ordered .classed
-
     in-order : i < length (order (mergedAt g W base n))
     in-order = omega (arith, ok .place, counts W count (ok .ordered))
 
@@ -295,9 +291,11 @@ module _ (g : Grid) (base n : ℕ) where
     wider = kept-wider g (Rows-notes g to ceiling base n) (Spare g base (base + n) 4 6) W Y notes (λ r c e i. inr i)
 
     pub too-many : ceiling < count → Numbered g W Y base n to ceiling count
+    unfolding mergedAt
     too-many h = record { count-is = count-is; kept = wider; many = λ e. notes; holds = λ e. absurd (omega arith) }
 
     pub all-rows : (Z : List ℕ) → count ≤ ceiling → Filling g Y Z to count (numberedAt g Y base n) count → Numbered g W Z base n to ceiling count
+    unfolding mergedAt
     all-rows Z h f =
         record {
           count-is = count-is;

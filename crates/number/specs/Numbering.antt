@@ -6,10 +6,11 @@ use mathlib.Core.List.{List}
 use lib.ListN.{length, getD}
 use Rattle.transducers.specs.Transducer.{Shape}
 use Rattle.transducers.specs.Table.{shape}
+use Rattle.transducers.specs.Merge.{merge}
 use Rattle.transducers.specs.Number.{order, numbered, number}
 use Rattle.workspace.specs.declared.Grid.{Grid}
-use Rattle.workspace.specs.Cells.{at, Sized, Kept, In-rows, Spare}
-use Rattle.workspace.specs.Holds.{Holds}
+use Rattle.workspace.specs.Cells.{Kept, In-rows, Spare}
+use Rattle.workspace.specs.Holds.{Holds, tableAt}
 use Rattle.number.specs.Order.{Classed, mergedAt, listed, Marked}
 
 -- the list is the order
@@ -36,7 +37,7 @@ Rows-notes g to ceiling base n r c e = In-rows to (to + ceiling) r c e ⊎ Spare
 
 -- the number of states, and the numbered table in the rows before if they are no more than the ceiling; else only notes have changed
 pub record Numbered (g : Grid) (W X : List ℕ) (base n to ceiling count : ℕ) : Type 0 where
-  pub count-is : count ≡ length (order (mergedAt g W base n))
+  pub count-is : count ≡ length (order (merge (g .tags) (tableAt g W base n)))
   pub kept : Kept g W X (Rows-notes g to ceiling base n)
   pub many : ceiling < count → Kept g W X (Spare g base (base + n) 4 6)
-  pub holds : count ≤ ceiling → Holds g X to (number (g .tags) (mergedAt g W base n))
+  pub holds : count ≤ ceiling → Holds g X to (number (g .tags) (merge (g .tags) (tableAt g W base n)))

@@ -1,16 +1,16 @@
 -- The states in the order of first reach, noted in the work slice: entry 4 of the i-th row's last cell has the i-th state of the list,
 -- entry 5 of a state's row one more than its place in the list, and 0 if it is not there.
-use Prim.Native.Nat.{ℕ, zero, suc, _+_, _≤_, _<_}
+use Prim.Native.Nat.{ℕ, suc, _+_, _≤_, _<_}
 use mathlib.Core.Path.{_≡_}
-use mathlib.Core.Bool.{Bool, true, false}
-use mathlib.Core.List.{List, []}
-use lib.ListN.{length, getD}
+use mathlib.Core.Bool.{true, false}
+use mathlib.Core.List.{List}
+use lib.ListN.{length}
 use lib.Dec.{ltb}
-use Rattle.transducers.specs.Table.{Table, row, shape}
+use Rattle.transducers.specs.Table.{Table, row}
 use Rattle.transducers.specs.Canonical.{Sound, Early}
 use Rattle.transducers.specs.Tabulate.{tabulate}
 use Rattle.transducers.specs.Merge.{class, classes, merge}
-use Rattle.transducers.specs.Number.{place, note, noteAll, order}
+use Rattle.transducers.specs.Number.{place, order}
 use Rattle.workspace.specs.declared.Grid.{Grid}
 use Rattle.workspace.specs.Cells.{at, Sized, Kept, Spare}
 use Rattle.workspace.specs.Holds.{Holds, tableAt, standing}

@@ -8,57 +8,45 @@ use Rattle.number.proofs.add.Lts as lts
 use Rattle.workspace.proofs.get.Reads as get-reads
 use Rattle.workspace.proofs.put.Reads as put-reads
 
--- src/lib.rt:37:29
 add-get : tie.Need-add-get
 add-get c = search needs
 
--- src/lib.rt:37:9
 get-requires : tie.Need-get-requires
 get-requires c κs = search needs
 
--- src/lib.rt:39:9
 same-length : tie.Need-same-length
 same-length c = search needs
 
--- src/lib.rt:39:9
 returns : tie.Need-returns
 returns c =
     let st = c .before .before .before .before in
     add-old (st .args .g) _ _ _ _ (st .args .s) (st .pre .0) (st .pre .1) _ (c .before .get .ensures) (c .if1 .taken)
 
--- src/lib.rt:41:18
 add-put : tie.Need-add-put
 add-put c = search needs
 
--- src/lib.rt:41:5
 put-requires : tie.Need-put-requires
 put-requires c κs =
     let st = c .before .before .before .before .before in
     omega (arith, add-room (st .args .g) _ _ _ _ (st .args .s) (st .pre .0) (st .pre .1) _ (c .before .before .get .ensures) (c .before .if1 .left))
 
--- src/lib.rt:42:18
 add-put-2 : tie.Need-add-put-2
 add-put-2 c = search needs
 
--- src/lib.rt:42:39
 add-put-3 : tie.Need-add-put-3
 add-put-3 c = search needs
 
--- src/lib.rt:42:5
 put-requires-2 : tie.Need-put-requires-2
 put-requires-2 c κs =
     let st = c .before .before .before .before .before .before .before .before .before in
     omega (arith, add-room (st .args .g) _ _ _ _ (st .args .s) (st .pre .0) (st .pre .1) _ (c .before .before .before .before .before .before .get .ensures) (c .before .before .before .before .before .if1 .left), c .before .before .before .put .ensures .kept .long)
 
--- src/lib.rt:43:5
 add-result : tie.Need-add-result
 add-result c = search needs
 
--- src/lib.rt:32:1
 same-length-2 : tie.Need-same-length-2
 same-length-2 c = search needs
 
--- src/lib.rt:32:1
 returns-2 : tie.Need-returns-2
 returns-2 c =
     let st = c .before .before .before .before .before .before .before .before .before .before .before .before in

@@ -20,47 +20,39 @@ Inv-loop work₀ g base n len q tags to₀ a₀ work to a =
 abbrev μ-loop : tie.MeasureT-loop
 μ-loop work₀ g base n len q tags to₀ a₀ work to a = g .tags - a
 
--- src/lib.rt:65:5
 loop-holds : tie.Need-loop-holds Inv-loop μ-loop
 loop-holds c =
     let st = c .before in
     let a = st .args in
     (omega arith, adding-start (a .g) _ _ _ _ (a .q) (st .pre .0 .classed) (st .pre .0 .room) (st .pre .1) (a .len) (st .pre .0 .marked) (st .pre .0 .some) refl)
 
--- src/lib.rt:66:13
 next-class-requires : tie.Need-next-class-requires Inv-loop μ-loop
 next-class-requires c κs =
     let st = c .before .before .before .before in
     let a = st .args in
     (classed-kept (a .g) _ _ _ _ (st .pre .0 .classed) (c .before .before .loop .inv .1 .kept), (st .pre .1, omega arith))
 
--- src/lib.rt:67:9
 add-requires : tie.Need-add-requires Inv-loop μ-loop
 add-requires c κs =
     let st = c .before .before .before .before .before .before in
     let a = st .args in
     (adding-room (a .g) _ _ _ _ (a .q) (st .pre .0 .classed) (st .pre .0 .room) (st .pre .1) _ _ _ _ (omega arith) (c .before .next-class .ensures .0) (c .before .before .before .before .loop .inv .1), c .before .next-class .ensures .1)
 
--- src/lib.rt:68:9
 add-a : tie.Need-add-a Inv-loop μ-loop
 add-a c = search needs
 
--- src/lib.rt:65:5
 loop-less : tie.Need-loop-less Inv-loop μ-loop
 loop-less c = search needs
 
--- src/lib.rt:65:5
 loop-again : tie.Need-loop-again Inv-loop μ-loop
 loop-again c =
     let st = c .before .before .before .before .before .before .before .before .before in
     let a = st .args in
     (omega arith, adding-next (a .g) _ _ _ _ (a .q) (st .pre .0 .classed) (st .pre .0 .room) (st .pre .1) _ _ _ _ _ _ (omega arith) (c .before .before .before .before .next-class .ensures .0) (c .before .before .before .before .before .before .before .loop .inv .1) (c .before .before .add .ensures))
 
--- src/lib.rt:57:1
 same-length : tie.Need-same-length Inv-loop μ-loop
 same-length c = c .before .loop .inv .1 .kept .long
 
--- src/lib.rt:57:1
 returns : tie.Need-returns Inv-loop μ-loop
 returns c =
     let st = c .before .before .before in

@@ -7,23 +7,18 @@ use Rattle.number.proofs.begin.Lts as lts
 use Rattle.number.proofs.unmark.Reads as unmark-reads
 use Rattle.workspace.proofs.put.Reads as put-reads
 
--- src/lib.rt:78:5
 unmark-requires : tie.Need-unmark-requires
 unmark-requires c κs = search needs
 
--- src/lib.rt:79:5
 put-requires : tie.Need-put-requires
 put-requires c κs = search needs
 
--- src/lib.rt:80:5
 put-requires-2 : tie.Need-put-requires-2
 put-requires-2 c κs = search needs
 
--- src/lib.rt:74:1
 same-length : tie.Need-same-length
 same-length c = search needs
 
--- src/lib.rt:74:1
 returns : tie.Need-returns
 returns c =
     let st = c .before .before .before .before .before .before .before .before .before .before .before .before .before in

@@ -9,11 +9,9 @@ use Rattle.number.proofs.copy_word.Lts as lts
 use Rattle.workspace.proofs.append_word.Reads as append-word-reads
 use Rattle.workspace.proofs.clear.Reads as clear-reads
 
--- src/lib.rt:105:5
 clear-requires : tie.Need-clear-requires
 clear-requires c κs = search needs
 
--- src/lib.rt:106:5
 append-word-requires : tie.Need-append-word-requires
 append-word-requires c κs =
     let st = c .before .before .before .before .before .before in
@@ -23,11 +21,9 @@ append-word-requires c κs =
       (copy-inner (a .g) _ _ (a .r) (a .c) (a .s) (a .r2) (st .pre .1 .0) (st .pre .1 .1) (c .before .before .before .clear .ensures), (copy-room (a .g) _ _ (a .r) (a .c) (a .s) (a .r2) (st .pre .1 .0) (st .pre .1 .1) (c .before .before .before .clear .ensures), (omega (arith, st .pre .1 .0 .row), st .pre .1 .0 .cell, λ e d. omega (arith, e)))),
     )
 
--- src/lib.rt:99:1
 same-length : tie.Need-same-length
 same-length c = search needs
 
--- src/lib.rt:99:1
 returns : tie.Need-returns
 returns c =
     let st = c .before .before .before .before .before .before .before .before .before in

@@ -7,25 +7,20 @@ use Rattle.number.proofs.next_class.Reads as reads
 use Rattle.number.proofs.next_class.Lts as lts
 use Rattle.workspace.proofs.get.Reads as get-reads
 
--- src/lib.rt:52:29
 add-get : tie.Need-add-get
 add-get c = search needs
 
--- src/lib.rt:52:9
 get-requires : tie.Need-get-requires
 get-requires c κs = search needs
 
--- src/lib.rt:53:18
 add-get-2 : tie.Need-add-get-2
 add-get-2 c = search needs
 
--- src/lib.rt:53:5
 get-requires-2 : tie.Need-get-requires-2
 get-requires-2 c κs =
     let st = c .before .before in
     omega (arith, next-at (st .args .g) _ _ _ (st .pre .0) (st .args .q) (st .args .a) _ (st .pre .1 .0) (st .pre .1 .1) (c .get .ensures))
 
--- src/lib.rt:47:1
 returns : tie.Need-returns
 returns c =
     let st = c .before .before .before in

@@ -8,22 +8,18 @@ use Rattle.number.proofs.next_place.Lts as lts
 use Rattle.number.proofs.next_class.Reads as next-class-reads
 use Rattle.workspace.proofs.get.Reads as get-reads
 
--- src/lib.rt:125:9
 next-class-requires : tie.Need-next-class-requires
 next-class-requires c κs =
     let st = c .before in
     let a = st .args in
     (st .pre .0 .ordered .classed, (state-low (a .g) _ _ _ _ _ _ _ (st .pre .0), st .pre .1))
 
--- src/lib.rt:126:29
 add-get : tie.Need-add-get
 add-get c = search needs
 
--- src/lib.rt:126:9
 get-requires : tie.Need-get-requires
 get-requires c κs = search needs
 
--- src/lib.rt:127:5
 sub-result : tie.Need-sub-result
 sub-result c =
     let st = c .before .before .before in
@@ -31,7 +27,6 @@ sub-result c =
     let e = place-is (a .g) _ _ _ _ _ _ _ (st .pre .0) (a .a) _ _ (st .pre .1) (c .before .next-class .ensures .0) (c .before .next-class .ensures .1) (c .get .ensures) in
     omega (arith, e .0)
 
--- src/lib.rt:110:1
 returns : tie.Need-returns
 returns c =
     let st = c .before .before .before in

@@ -10,40 +10,33 @@ use Rattle.number.proofs.begin.Reads as begin-reads
 use Rattle.number.proofs.number_rows.Reads as number-rows-reads
 use Rattle.number.proofs.search.Reads as search-reads
 
--- src/lib.rt:207:5
 begin-requires : tie.Need-begin-requires
 begin-requires c κs = search needs
 
--- src/lib.rt:208:9
 search-requires : tie.Need-search-requires
 search-requires c κs =
     let st = c .before .before .before .before .before .before in
     let a = st .args in
     (classed-kept (a .g) _ _ _ _ (st .pre .0) (c .before .before .before .begin .ensures .kept), lists-self (a .g) _ _ _ _ _ _ (c .before .before .before .begin .ensures))
 
--- src/lib.rt:210:9
 same-length : tie.Need-same-length
 same-length c = search needs
 
--- src/lib.rt:210:9
 returns : tie.Need-returns
 returns c =
     let st = c .before .before .before .before .before .before .before .before .before .before in
     let a = st .args in
     too-many (a .g) _ _ _ _ _ (a .to) (a .ceiling) _ (st .pre .0) (st .pre .1) (c .before .before .before .before .before .before .before .begin .ensures .kept) (c .before .before .before .search .ensures) (c .if1 .taken)
 
--- src/lib.rt:212:5
 number-rows-requires : tie.Need-number-rows-requires
 number-rows-requires c κs =
     let st = c .before .before .before .before .before .before .before .before .before .before .before in
     let a = st .args in
     (ordered (a .g) _ _ _ _ _ (a .to) (a .ceiling) _ (st .pre .0) (st .pre .1) (c .before .before .before .before .before .before .before .before .begin .ensures .kept) (c .before .before .before .before .search .ensures), omega (arith, st .pre .1, c .before .if1 .left))
 
--- src/lib.rt:202:1
 same-length-2 : tie.Need-same-length-2
 same-length-2 c = search needs
 
--- src/lib.rt:202:1
 returns-2 : tie.Need-returns-2
 returns-2 c =
     let st = c .before .before .before .before .before .before .before .before .before .before .before .before .before .before in

@@ -8,22 +8,18 @@ use Rattle.number.proofs.number_row.Lts as lts
 use Rattle.number.proofs.copy_word.Reads as copy-word-reads
 use Rattle.number.proofs.number_steps.Reads as number-steps-reads
 
--- src/lib.rt:184:5
 number-steps-requires : tie.Need-number-steps-requires
 number-steps-requires c κs = search needs
 
--- src/lib.rt:185:24
 add-copy-word : tie.Need-add-copy-word
 add-copy-word c =
     let st = c .before .before .before .before .before .before in
     let a = st .args in
     omega (arith, state-low (a .g) _ _ _ _ _ _ _ (st .pre))
 
--- src/lib.rt:185:45
 add-copy-word-2 : tie.Need-add-copy-word-2
 add-copy-word-2 c = search needs
 
--- src/lib.rt:185:5
 copy-word-requires : tie.Need-copy-word-requires
 copy-word-requires c κs =
     let st = c .before .before .before .before .before .before in
@@ -31,11 +27,9 @@ copy-word-requires c κs =
     let on = rowing-kept (a .g) _ _ _ _ _ _ _ (st .pre) _ (c .before .before .before .number-steps .ensures .kept) in
     (on .ordered .classed .sized, (inner-final (a .g) _ _ _ _ _ _ _ (on), omega (arith, st .pre .before, st .pre .place)))
 
--- src/lib.rt:171:1
 same-length : tie.Need-same-length
 same-length c = search needs
 
--- src/lib.rt:171:1
 returns : tie.Need-returns
 returns c =
     let st = c .before .before .before .before .before .before .before .before .before in

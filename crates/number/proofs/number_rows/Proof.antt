@@ -19,18 +19,15 @@ Inv-loop work₀ g base n count to i₀ work i =
 abbrev μ-loop : tie.MeasureT-loop
 μ-loop work₀ g base n count to i₀ work i = count - i
 
--- src/lib.rt:194:5
 loop-holds : tie.Need-loop-holds Inv-loop μ-loop
 loop-holds c =
     let st = c .before in
     let a = st .args in
     (omega arith, rows-start (a .g) _ _ _ (a .count) (a .to) (st .pre .0) (st .pre .1))
 
--- src/lib.rt:195:30
 add-get : tie.Need-add-get Inv-loop μ-loop
 add-get c = search needs
 
--- src/lib.rt:195:13
 get-requires : tie.Need-get-requires Inv-loop μ-loop
 get-requires c κs =
     let st = c .before .before .before .before in
@@ -38,33 +35,27 @@ get-requires c κs =
     let on = ordered-kept (a .g) _ _ _ _ (a .to) (a .count) (st .pre .0) (st .pre .1) (c .before .before .loop .inv .1 .kept) in
     omega (arith, on .classed .sized, st .pre .0 .low, st .pre .0 .classed .room)
 
--- src/lib.rt:196:9
 number-row-requires : tie.Need-number-row-requires Inv-loop μ-loop
 number-row-requires c κs =
     let st = c .before .before .before .before .before .before in
     let a = st .args in
     rows-rowing (a .g) _ _ _ (a .count) (a .to) (st .pre .0) (st .pre .1) _ _ _ (omega arith) (c .before .before .before .before .loop .inv .1) (c .before .get .ensures)
 
--- src/lib.rt:197:9
 add-i : tie.Need-add-i Inv-loop μ-loop
 add-i c = search needs
 
--- src/lib.rt:194:5
 loop-less : tie.Need-loop-less Inv-loop μ-loop
 loop-less c = search needs
 
--- src/lib.rt:194:5
 loop-again : tie.Need-loop-again Inv-loop μ-loop
 loop-again c =
     let st = c .before .before .before .before .before .before .before .before .before in
     let a = st .args in
     (omega arith, rows-next (a .g) _ _ _ (a .count) (a .to) (st .pre .0) (st .pre .1) _ _ _ (omega arith) (c .before .before .before .before .before .before .before .loop .inv .1) (c .before .before .number-row .ensures))
 
--- src/lib.rt:188:1
 same-length : tie.Need-same-length Inv-loop μ-loop
 same-length c = c .before .loop .inv .1 .kept .long
 
--- src/lib.rt:188:1
 returns : tie.Need-returns Inv-loop μ-loop
 returns c =
     let st = c .before .before .before in

@@ -9,41 +9,33 @@ use Rattle.number.proofs.copy_word.Reads as copy-word-reads
 use Rattle.number.proofs.next_place.Reads as next-place-reads
 use Rattle.workspace.proofs.put.Reads as put-reads
 
--- src/lib.rt:145:9
 next-place-requires : tie.Need-next-place-requires
 next-place-requires c κs = search needs
 
--- src/lib.rt:146:24
 add-copy-word : tie.Need-add-copy-word
 add-copy-word c =
     let st = c .before .before .before .before in
     let a = st .args in
     omega (arith, state-low (a .g) _ _ _ _ _ _ _ (st .pre .0))
 
--- src/lib.rt:146:40
 add-copy-word-2 : tie.Need-add-copy-word-2
 add-copy-word-2 c = search needs
 
--- src/lib.rt:146:5
 copy-word-requires : tie.Need-copy-word-requires
 copy-word-requires c κs =
     let st = c .before .before .before .before in
     let a = st .args in
     (st .pre .0 .ordered .classed .sized, (inner-output (a .g) _ _ _ _ _ _ _ (st .pre .0) (a .a) (st .pre .1), omega (arith, st .pre .0 .before, st .pre .0 .place)))
 
--- src/lib.rt:147:18
 add-put : tie.Need-add-put
 add-put c = search needs
 
--- src/lib.rt:147:5
 put-requires : tie.Need-put-requires
 put-requires c κs = search needs
 
--- src/lib.rt:130:1
 same-length : tie.Need-same-length
 same-length c = search needs
 
--- src/lib.rt:130:1
 returns : tie.Need-returns
 returns c =
     let st = c .before .before .before .before .before .before .before .before .before .before .before in

@@ -18,40 +18,33 @@ Inv-loop work₀ g base n count to i q tags a₀ work a =
 abbrev μ-loop : tie.MeasureT-loop
 μ-loop work₀ g base n count to i q tags a₀ work a = g .tags - a
 
--- src/lib.rt:165:5
 loop-holds : tie.Need-loop-holds Inv-loop μ-loop
 loop-holds c =
     let st = c .before in
     let a = st .args in
     (omega arith, steps-start (a .g) _ _ _ _ _ _ _ (st .pre))
 
--- src/lib.rt:166:9
 number-step-requires : tie.Need-number-step-requires Inv-loop μ-loop
 number-step-requires c κs =
     let st = c .before .before .before .before in
     let a = st .args in
     (rowing-kept (a .g) _ _ _ _ _ _ _ (st .pre) _ (c .before .before .loop .inv .1 .kept), omega arith)
 
--- src/lib.rt:167:9
 add-a : tie.Need-add-a Inv-loop μ-loop
 add-a c = search needs
 
--- src/lib.rt:165:5
 loop-less : tie.Need-loop-less Inv-loop μ-loop
 loop-less c = search needs
 
--- src/lib.rt:165:5
 loop-again : tie.Need-loop-again Inv-loop μ-loop
 loop-again c =
     let st = c .before .before .before .before .before .before .before in
     let a = st .args in
     (omega arith, steps-next (a .g) _ _ _ _ _ _ _ (st .pre) _ _ _ (omega arith) (c .before .before .before .before .before .loop .inv .1) (c .before .before .number-step .ensures))
 
--- src/lib.rt:150:1
 same-length : tie.Need-same-length Inv-loop μ-loop
 same-length c = c .before .loop .inv .1 .kept .long
 
--- src/lib.rt:150:1
 returns : tie.Need-returns Inv-loop μ-loop
 returns c =
     let st = c .before .before .before in

@@ -15,22 +15,18 @@ Inv-loop work₀ g base n len₀ i₀ work len i = Searching g base n work₀ wo
 abbrev μ-loop : tie.MeasureT-loop
 μ-loop work₀ g base n len₀ i₀ work len i = n - i
 
--- src/lib.rt:90:5
 loop-holds : tie.Need-loop-holds Inv-loop μ-loop
 loop-holds c =
     let st = c .before in
     let a = st .args in
     searching-start (a .g) _ _ _ (st .pre .0) (st .pre .1)
 
--- src/lib.rt:91:30
 add-get : tie.Need-add-get Inv-loop μ-loop
 add-get c = search needs
 
--- src/lib.rt:91:13
 get-requires : tie.Need-get-requires Inv-loop μ-loop
 get-requires c κs = search needs
 
--- src/lib.rt:92:9
 add-steps-requires : tie.Need-add-steps-requires Inv-loop μ-loop
 add-steps-requires c κs =
     let st = c .before .before .before .before .before .before in
@@ -39,26 +35,21 @@ add-steps-requires c κs =
     let inv = c .before .before .before .before .loop .inv in
     (searching-room (a .g) _ _ _ (st .pre .0) _ _ _ _ inv (omega arith) got, searching-state (a .g) _ _ _ (st .pre .0) _ _ _ _ inv (omega arith) got)
 
--- src/lib.rt:93:9
 add-i : tie.Need-add-i Inv-loop μ-loop
 add-i c = search needs
 
--- src/lib.rt:90:5
 loop-less : tie.Need-loop-less Inv-loop μ-loop
 loop-less c = search needs
 
--- src/lib.rt:90:5
 loop-again : tie.Need-loop-again Inv-loop μ-loop
 loop-again c =
     let st = c .before .before .before .before .before .before .before .before .before in
     let a = st .args in
     searching-next (a .g) _ _ _ (st .pre .0) _ _ _ _ (c .before .before .before .before .before .before .before .loop .inv) (omega arith) (c .before .before .before .before .get .ensures) _ _ (c .before .before .add-steps .ensures)
 
--- src/lib.rt:83:1
 same-length : tie.Need-same-length Inv-loop μ-loop
 same-length c = c .before .loop .inv .kept .long
 
--- src/lib.rt:83:1
 returns : tie.Need-returns Inv-loop μ-loop
 returns c =
     let st = c .before .before .before in

@@ -18,27 +18,21 @@ Inv-loop work₀ g base n q₀ work q = (q ≤ n) × Sized g work × Clearing g 
 abbrev μ-loop : tie.MeasureT-loop
 μ-loop work₀ g base n q₀ work q = n - q
 
--- src/lib.rt:25:5
 loop-holds : tie.Need-loop-holds Inv-loop μ-loop
 loop-holds c = let st = c .before in (omega arith, st .pre .sized, clearing-start (st .args .g) _ _ (st .args .work .now))
 
--- src/lib.rt:26:22
 add-put : tie.Need-add-put Inv-loop μ-loop
 add-put c = search needs
 
--- src/lib.rt:26:9
 put-requires : tie.Need-put-requires Inv-loop μ-loop
 put-requires c κs = search needs
 
--- src/lib.rt:27:9
 add-q : tie.Need-add-q Inv-loop μ-loop
 add-q c = search needs
 
--- src/lib.rt:25:5
 loop-less : tie.Need-loop-less Inv-loop μ-loop
 loop-less c = search needs
 
--- src/lib.rt:25:5
 loop-again : tie.Need-loop-again Inv-loop μ-loop
 loop-again c =
     let st = c .before .before .before .before .before .before .before in
@@ -50,11 +44,9 @@ loop-again c =
       clearing-next (a .g) _ _ _ _ _ _ (st .pre .deep) (omega arith) (inv .2) p,
     )
 
--- src/lib.rt:20:1
 same-length : tie.Need-same-length Inv-loop μ-loop
 same-length c = search needs
 
--- src/lib.rt:20:1
 returns : tie.Need-returns Inv-loop μ-loop
 returns c =
     let a = c .before .before .before .args in
