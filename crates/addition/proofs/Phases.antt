@@ -32,13 +32,9 @@ use Rattle.onerule.specs.Rule.{Room}
 use Rattle.compose.specs.Composed.{Composable, Composed}
 use Rattle.normalize.specs.Strip.{Normalized}
 use Rattle.merge.specs.Classes.{Merged}
-use Rattle.number.specs.Order.{Classed, mergedAt}
+use Rattle.number.specs.Order.{Classed}
 use Rattle.number.specs.Numbering.{Rows-notes, Numbered}
 use Rattle.addition.specs.Addition.{Addable, more, Added}
-
-mergedAt-is : (g : Grid) (W : List ℕ) (base n : ℕ) → mergedAt g W base n ≡ merge (g .tags) (tableAt g W base n)
-unfolding mergedAt
-mergedAt-is g W base n = refl
 
 -- rows that hold a table that does something are ready for a phase
 ready-doing : (g : Grid) (W : List ℕ) (base n d : ℕ) (f : List ℕ → List ℕ) (t : Table) → Sized g W → base + n ≤ g .rows → Holds g W base t
@@ -196,11 +192,8 @@ module _ (g : Grid) (W : List ℕ) (n ceiling : ℕ) (r : Rule) (ok : Addable g 
 
           -- the numbered table is the one with the rule added, by the uniqueness of canonical tables
           module _ (U : List ℕ) (total : ℕ) (numbered-is : Numbered g T U ceiling count 0 ceiling total) where
-            m-is : mergedAt g T ceiling count ≡ merge k n-table
-            m-is = merged-at ∙ ap (merge k) (v-same ∙ n-same)
-              where
-                merged-at : mergedAt g T ceiling count ≡ merge k (tableAt g T ceiling count)
-                merged-at = mergedAt-is g T ceiling count
+            m-is : merge k (tableAt g T ceiling count) ≡ merge k n-table
+            m-is = ap (merge k) (v-same ∙ n-same)
 
             m-doing : Doing k (ok .most + five) made (merge k n-table)
             m-doing = doing-merge k (ok .most + five) made n-table n-doing n-early
@@ -219,10 +212,10 @@ module _ (g : Grid) (W : List ℕ) (n ceiling : ℕ) (r : Rule) (ok : Addable g 
                 (canonical-number k (ok .most + five) made (merge k n-table) m-doing (early-merge k (ok .most + five) made n-table n-doing n-early)
                 (apart-merge k (ok .most + five) made n-table n-doing n-early)) (last-doing .does)
 
-            number-is : number k (mergedAt g T ceiling count) ≡ more g W n r
+            number-is : number k (merge k (tableAt g T ceiling count)) ≡ more g W n r
             number-is = ap (number k) m-is ∙ last-is
 
-            number-long : length (number k (mergedAt g T ceiling count)) ≡ length (order (mergedAt g T ceiling count))
+            number-long : length (number k (merge k (tableAt g T ceiling count))) ≡ length (order (merge k (tableAt g T ceiling count)))
             number-long = length-table k _
 
             all-rows : Kept g W U (In-rows 0 (g .rows))
