@@ -1,13 +1,13 @@
 -- The phases one behind the other: what stands in the rows after each is what the next one needs.
-use Prim.Native.Nat.{ℕ, suc, _+_, _-_, _*_, _≤_, _<_}
+use Prim.Native.Nat.{ℕ, _+_, _-_, _*_, _≤_}
 use native.Mathlib.Omega.{arith}
 use native.Mathlib.Nat.{mul-le-mul-left}
-use mathlib.Core.Path.{_≡_, refl, sym, ap, _∙_, subst}
-use mathlib.Core.Logic.{_⊎_, inl, inr}
+use mathlib.Core.Path.{_≡_, sym, ap, _∙_, subst}
+use mathlib.Core.Logic.{inl, inr}
 use mathlib.Core.List.{List}
 use lib.ListN.{length}
 use Rattle.limits.specs.Limits.{longest-pattern}
-use Rattle.cascades.specs.Rule.{Rule, ValidRule}
+use Rattle.cascades.specs.Rule.{Rule}
 use Rattle.cascades.specs.Rewrite.{apply}
 use Rattle.transducers.specs.Table.{Table, shape}
 use Rattle.transducers.specs.Canonical.{Early}
@@ -20,7 +20,6 @@ use Rattle.transducers.proofs.Normalize.{doing-normalize, early-normalize}
 use Rattle.transducers.proofs.Merge.{doing-merge, early-merge, apart-merge}
 use Rattle.transducers.proofs.Number.{doing-number, canonical-number}
 use Rattle.minimal.specs.OneRule.{oneRule, ruleTable}
-use Rattle.minimal.specs.TableOf.{add}
 use Rattle.minimal.proofs.TableOf.{Good, good-add, good-only, doing-rule}
 use Rattle.workspace.specs.declared.Grid.{Grid}
 use Rattle.workspace.specs.Cells.{Sized, Kept, In-rows, Spare}

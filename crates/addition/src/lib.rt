@@ -1,7 +1,5 @@
 // One more rule: the phases, one behind the other.
 use workspace::Grid;
-ghost use mathlib.Core.Path.{_≡_};
-ghost use Prim.Native.Nat.{ℕ};
 ghost use Rattle.onerule.specs.Rule.{rule};
 ghost use Rattle.addition.specs.Addition.{Addable, Added};
 

@@ -1,18 +1,17 @@
 -- What `compileAnswer` gives, told by the tables of the leading parts.
-use Prim.Native.Nat.{ℕ, zero, suc, _+_, _*_, _-_, _≤_, _<_}
+use Prim.Native.Nat.{ℕ, suc, _-_, _≤_, _<_}
 use native.Mathlib.Omega.{arith}
 use native.Mathlib.Decide.{decLt}
-use native.Mathlib.Nat.{mul-le-mul-left}
 use mathlib.Core.Path.{_≡_, refl, sym, ap, _∙_, subst}
 use mathlib.Core.Bool.{Bool, true, false, _&&_}
 use mathlib.Core.List.{List, [], _∷_, _++_, append-assoc, append-nil}
-use borrow.Author.Tests.{leb-true, leb-false, le-leb, lt-leb}
+use borrow.Author.Tests.{leb-true, leb-false, le-leb}
 use lib.Dec.{leb}
-use lib.ListN.{length, take, getD, length-append, length-take}
-use lib.Seq.{take-append-seam, take-append-le, take-all, take-at, length-take-le}
-use Rattle.limits.specs.Limits.{most-states, most-rules, longest-pattern, most-held, work-entries}
+use lib.ListN.{length, take, length-append}
+use lib.Seq.{take-at}
+use Rattle.limits.specs.Limits.{most-states, longest-pattern, work-entries}
 use Rattle.answers.specs.Outcome.{Outcome, result, refused, nothing, byte, rule, andThen}
-use Rattle.cascades.specs.Rule.{Rule, Cascade, ValidRules}
+use Rattle.cascades.specs.Rule.{Rule, Cascade}
 use Rattle.books.specs.Book.{Valid}
 use Rattle.books.specs.Read.{Stage, opening, size, command, place, new-tag, pattern-tag, ended, Next, go, refuse, step, readFrom, read}
 use Rattle.books.proofs.Encode.{reads-exactly}
@@ -21,11 +20,9 @@ use Rattle.minimal.specs.OneRule.{ruleTable}
 use Rattle.minimal.specs.TableOf.{add, tableOf}
 use Rattle.minimal.proofs.TableOf.{good, tableOf-append}
 use Rattle.tables.specs.Bytes.{encode}
-use Rattle.tables.specs.Decode.{Decoded, decode}
 use Rattle.tables.specs.Valid.{ValidTable}
-use Rattle.tables.proofs.Theorem.{encoded}
 use Rattle.compilation.specs.Demand.{Enough}
-use Rattle.compilation.specs.Compile.{unless, withRules, compileRules, fitting, compileCascade, compileAnswer}
+use Rattle.compilation.specs.Compile.{withRules, compileRules, fitting, compileCascade, compileAnswer}
 
 -- the table of each leading part of j rules, j from 1 to m, has at most n states
 abbrev pub Few : ℕ → ℕ → List Rule → ℕ → Type 0

@@ -1,5 +1,5 @@
 -- Demand 3, for every two books, ceilings and slice lengths. `compileAnswer` is what the call compile answers.
-use Prim.Native.Nat.{ℕ, zero, suc, _-_, _≤_, _<_}
+use Prim.Native.Nat.{ℕ, suc, _-_, _≤_, _<_}
 use native.Mathlib.Omega.{arith}
 use native.Mathlib.Decide.{decLt}
 use mathlib.Core.Path.{_≡_, refl, sym, ap, _∙_, subst}
@@ -10,10 +10,8 @@ use lib.Dec.{leb}
 use lib.ListN.{length, take}
 use lib.Seq.{take-length}
 use Rattle.limits.specs.Limits.{longest-pattern, most-states}
-use Rattle.words.specs.Word.{Below}
-use Rattle.answers.specs.Outcome.{Outcome, result, refused, nothing, rule, andThen}
+use Rattle.answers.specs.Outcome.{Outcome, result, refused, rule, andThen}
 use Rattle.cascades.specs.Rule.{Rule, Cascade, ValidRules}
-use Rattle.cascades.specs.Rewrite.{behavior}
 use Rattle.books.specs.Book.{Valid}
 use Rattle.books.specs.Read.{read}
 use Rattle.books.proofs.Encode.{reads-exactly}
@@ -24,9 +22,9 @@ use Rattle.tables.specs.Bytes.{encode}
 use Rattle.tables.specs.Decode.{Decoded, decode}
 use Rattle.tables.proofs.Theorem.{encoded}
 use Rattle.tables.proofs.Words.{number-bytes}
-use Rattle.compilation.specs.Compile.{unless, compileRules, fitting, compileAnswer}
-use Rattle.compilation.specs.Demand.{Does, NeedsMore, Shortest, Alike, Enough, SmallestTable}
-use Rattle.compilation.proofs.Answer.{Few, Exceeds, Told, fits, exceeds, told, table-valid, enough-answer, Late, Reached, reached}
+use Rattle.compilation.specs.Compile.{unless, fitting, compileAnswer}
+use Rattle.compilation.specs.Demand.{NeedsMore, Shortest, Alike, Enough, SmallestTable}
+use Rattle.compilation.proofs.Answer.{Few, Exceeds, Told, fits, exceeds, told, table-valid, enough-answer, Late, reached}
 
 -- ---- what the answer is made of
 

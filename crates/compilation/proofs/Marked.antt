@@ -1,11 +1,11 @@
 -- The marked lines of document 01, proved together by one computed test.
 use Prim.Native.Nat.{ℕ, zero, suc, _<_}
 use native.Mathlib.Omega.{arith}
-use mathlib.Core.Path.{_≡_, refl, sym, _∙_}
+use mathlib.Core.Path.{_≡_, refl}
 use mathlib.Core.Bool.{Bool, true, false}
 use mathlib.Core.List.{List, [], _∷_}
 use lib.ListN.{length, getD}
-use Rattle.compilation.specs.Instances.{Instance, turns, holds, instances, all}
+use Rattle.compilation.specs.Instances.{Instance, holds, instances, all}
 
 pub marked : all instances ≡ true
 marked = refl

@@ -1,6 +1,6 @@
 -- The answer of compile, as a function of the book's bytes, the ceiling and the lengths of the two slices: the bytes of the table, or the
 -- first refusal in the order of document 01: 8, the book's, 9, 10 with the rule, 11.
-use Prim.Native.Nat.{ℕ, zero, suc}
+use Prim.Native.Nat.{ℕ, suc}
 use mathlib.Core.Bool.{Bool, true, false, _&&_}
 use mathlib.Core.List.{List, [], _∷_}
 use lib.Dec.{leb}

@@ -3,10 +3,10 @@ use Prim.Native.Nat.{ℕ}
 use native.Mathlib.Omega.{arith}
 use mathlib.Core.Path.{_≡_, refl, sym, ap, _∙_, subst}
 use mathlib.Core.Logic.{_↔_}
-use mathlib.Core.List.{List, _++_}
+use mathlib.Core.List.{List}
 use lib.ListN.{length, take, drop}
 use lib.Seq.{take-at}
-use Rattle.answers.specs.Outcome.{Outcome, result, refused, nothing, byte, rule}
+use Rattle.answers.specs.Outcome.{Outcome, result, refused, nothing, rule}
 use Rattle.answers.specs.declared.Refusal.the-variants.{AtByte, AtRule, Bare}
 use Rattle.sentences.specs.Run.{written}
 use Rattle.compilation.specs.Compile.{compileAnswer}

@@ -2,23 +2,19 @@
 use Prim.Native.Nat.{ℕ, zero, suc, _+_, _≤_, _<_}
 use native.Mathlib.Omega.{arith}
 use native.Mathlib.Numerals.{add-one}
-use mathlib.Core.Path.{_≡_, refl, sym, ap, _∙_}
-use mathlib.Core.Bool.{true, false}
+use mathlib.Core.Path.{_≡_, refl, ap, _∙_}
 use mathlib.Core.List.{List, [], _∷_, _++_}
 use borrow.Author.Tests.{le-leb, lt-leb}
-use lib.Dec.{leb}
-use lib.ListN.{length, drop, replicate, set, length-append, length-replicate, length-drop}
-use lib.Seq.{sets, sets-eq}
-use Rattle.answers.specs.Outcome.{result, refused, nothing}
-use Rattle.transducers.specs.Table.{Row}
+use lib.ListN.{length, drop, replicate, set}
+use lib.Seq.{sets-eq}
+use Rattle.answers.specs.Outcome.{refused, nothing}
 use Rattle.sentences.specs.Run.{written}
-use Rattle.tables.specs.Bytes.{encode}
 use Rattle.compilation.specs.Compile.{fitting}
 use Rattle.workspace.specs.declared.Grid.{Grid}
 use Rattle.workspace.specs.Cells.{word}
 use Rattle.workspace.specs.Holds.{Ready, tableAt}
-use Rattle.workspace.proofs.Views.{row-below, final-is, final-size, final-inner, output-is, output-inner, in-table}
-use Rattle.encoder.specs.Encoding.{Wrote, rowsIn, Bytes, Encodable, Writable}
+use Rattle.workspace.proofs.Views.{final-is, final-size, final-inner, output-is, output-inner, in-table}
+use Rattle.encoder.specs.Encoding.{Wrote, rowsIn, Writable}
 use Rattle.words.specs.Word.{Below}
 use Rattle.compiler.specs.Answer.{compileOutcome, Gave}
 use Rattle.compiler.specs.declared.CompileAnswer.{CompileAnswer}
@@ -37,9 +33,6 @@ wiped-suc (x ∷ W) (suc i) h = ap {B = List ℕ} (λ l. 0 ∷ l) (wiped-suc W i
 
 pub wiped-next : (W X : List ℕ) (i : ℕ) → i < length W → X ≡ replicate i 0 ++ drop i W → set X i 0 ≡ replicate (i + 1) 0 ++ drop (i + 1) W
 wiped-next W X i h e = cc (e, wiped-suc W i h, add-one i)
-
-pub wiped-long : (W : List ℕ) (i : ℕ) → i ≤ length W → length (replicate i 0 ++ drop i W) ≡ length W
-wiped-long W i h = length-append (replicate i 0) (drop i W) ∙ omega (arith, length-replicate {A = ℕ} i 0, length-drop i W)
 
 below-mono : (k m : ℕ) (w : List ℕ) → k ≤ m → Below k w → Below m w
 below-mono k m [] h b = tt

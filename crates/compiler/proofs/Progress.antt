@@ -4,18 +4,18 @@ use native.Mathlib.Omega.{arith}
 use native.Mathlib.Numerals.{add-one}
 use mathlib.Core.Path.{_≡_, refl, sym, ap, _∙_, subst}
 use mathlib.Core.Bool.{Bool, true, false}
-use mathlib.Core.List.{List, [], _∷_, _++_, reverse, reverse-cons, append-assoc, append-nil}
+use mathlib.Core.List.{List, [], _∷_, _++_, reverse-cons, append-assoc, append-nil}
 use borrow.Author.Tests.{le-leb, lt-leb}
 use lib.Dec.{leb}
 use lib.ListN.{length, length-reverse}
-use Rattle.limits.specs.Limits.{most-states, most-rules, most-tags, longest-pattern}
-use Rattle.answers.specs.Outcome.{Outcome, result, refused, rule, andThen}
+use Rattle.limits.specs.Limits.{longest-pattern}
+use Rattle.answers.specs.Outcome.{Outcome, refused, rule, andThen}
 use Rattle.cascades.specs.Rule.{Rule, ValidRule, ValidRules}
 use Rattle.cascades.specs.Rewrite.{behavior}
-use Rattle.books.specs.Kept.{Kept as Arrays, Shaped, ruleAt, rulesDown}
+use Rattle.books.specs.Kept.{Kept as Arrays, ruleAt, rulesDown}
 use Rattle.books.proofs.Kept.{down-length}
-use Rattle.transducers.specs.Table.{Table, shape}
-use Rattle.transducers.specs.Tabulate.{table, Doing}
+use Rattle.transducers.specs.Table.{Table}
+use Rattle.transducers.specs.Tabulate.{table}
 use Rattle.minimal.specs.OneRule.{ruleTable}
 use Rattle.minimal.specs.TableOf.{identity, add, tableOf}
 use Rattle.minimal.proofs.TableOf.{Good, good, tableOf-append}
@@ -27,9 +27,23 @@ use Rattle.workspace.specs.Holds.{Holds, Ready, tableAt}
 use Rattle.workspace.proofs.Cells.{kept-none, kept-then, kept-wider, sized-kept}
 use Rattle.workspace.proofs.Holds.{table-at, holds-at}
 use Rattle.addition.specs.Addition.{Addable, more, Added}
-use Rattle.compiler.specs.Answer.{compileOutcome, longOf, Gave}
-use Rattle.compiler.specs.Rules.{upto, from, outcome, Compilable, Progress}
+use Rattle.compiler.specs.Answer.{compileOutcome, Gave}
+use Rattle.compiler.specs.Rules.{upto, outcome, Compilable}
 use Rattle.compiler.specs.declared.CompileAnswer.{CompileAnswer}
+
+-- n rules of the arrays from the i-th on
+abbrev pub from : Arrays → ℕ → ℕ → List Rule
+from a i zero = []
+from a i (suc n) = ruleAt a i ∷ from a (suc i) n
+
+-- the first i rules are done: the rows from 0 hold their table of n states, and compiling goes on from there
+pub record Progress (g : Grid) (W X : List ℕ) (ceiling m : ℕ) (a : Arrays) (i n : ℕ) : Type 0 where
+  pub kept : Kept g W X (In-rows 0 (g .rows))
+  pub inside : i ≤ m
+  pub few : n ≤ ceiling
+  pub long : length (tableOf (g .tags) (upto a i)) ≡ n
+  pub holds : Holds g X 0 (tableOf (g .tags) (upto a i))
+  pub goes-on : compileRules (g .tags) ceiling (upto a m) ≡ withRules (g .tags) ceiling i (tableOf (g .tags) (upto a i)) (from a i (m - i))
 
 upto-next : (a : Arrays) (i : ℕ) → upto a (suc i) ≡ upto a i ++ (ruleAt a i ∷ [])
 upto-next a i = reverse-cons (ruleAt a i) (rulesDown a i)

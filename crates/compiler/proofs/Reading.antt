@@ -5,24 +5,22 @@ use native.Mathlib.Decide.{decLt}
 use native.Mathlib.Nat.{mul-le-mul-left, suc-mul}
 use mathlib.Core.Path.{_≡_, refl, sym, ap, _∙_, subst}
 use mathlib.Core.Bool.{Bool, true, false, _&&_}
-use mathlib.Core.List.{List, [], _∷_, _++_, reverse}
+use mathlib.Core.List.{List, _++_}
 use borrow.Author.Tests.{le-leb, lt-leb}
 use lib.Dec.{leb}
-use lib.ListN.{length, drop, getD, replicate, length-drop, length-reverse}
+use lib.ListN.{length, drop, getD, replicate, length-drop}
 use lib.Seq.{ext-getD, getD-drop}
-use Rattle.limits.specs.Limits.{most-states, most-rules, most-tags, longest-pattern, work-entries}
-use Rattle.answers.specs.Outcome.{Outcome, result, refused, nothing, byte, rule, andThen}
+use Rattle.limits.specs.Limits.{most-states, work-entries}
+use Rattle.answers.specs.Outcome.{Outcome, result, refused, nothing, byte, andThen}
 use Rattle.answers.specs.Answer.{refusal}
 use Rattle.answers.specs.declared.Refusal.{Refusal}
 use Rattle.answers.specs.declared.Refusal.the-variants.{AtByte, AtRule, Bare}
-use Rattle.cascades.specs.Rule.{Rule, Cascade, ValidRule}
-use Rattle.books.specs.Kept.{Kept as Arrays, Shaped, ruleAt, rulesDown}
-use Rattle.books.specs.Book.{Valid}
+use Rattle.cascades.specs.Rule.{Rule, Cascade}
+use Rattle.books.specs.Kept.{Kept as Arrays}
 use Rattle.books.specs.Read.{opening, read}
 use Rattle.books.specs.Resume.{Whole}
 use Rattle.books.specs.declared.BookAnswer.{BookAnswer}
 use Rattle.books.specs.declared.BookAnswer.the-variants.{Book}
-use Rattle.books.proofs.Kept.{down-length}
 use Rattle.books.proofs.Encode.{kept-valid, kept-few, reads-exactly}
 use Rattle.transducers.specs.Table.{Table}
 use Rattle.minimal.specs.TableOf.{tableOf}
@@ -31,7 +29,7 @@ use Rattle.sentences.specs.Run.{written}
 use Rattle.compilation.specs.Compile.{compileRules, fitting, compileCascade, compileAnswer}
 use Rattle.compilation.proofs.Answer.{Told, fits, exceeds, told, NamesByte, names-byte}
 use Rattle.workspace.specs.declared.Grid.{Grid}
-use Rattle.workspace.specs.Cells.{ix, at, Sized, In, Kept, In-rows}
+use Rattle.workspace.specs.Cells.{ix, at, Kept, In-rows}
 use Rattle.workspace.proofs.Cells.{ix-below}
 use Rattle.compiler.specs.Answer.{compileOutcome, longOf, clears, required, worked, Gave}
 use Rattle.compiler.specs.Rules.{upto, outcome, cascadeOf, Compilable, Readable, Ended}

@@ -1,8 +1,7 @@
 -- Compiling the rules that the reader's arrays hold.
-use Prim.Native.Nat.{ℕ, zero, suc, _+_, _-_, _*_, _≤_, _<_}
+use Prim.Native.Nat.{ℕ, _+_, _*_, _≤_, _<_}
 use mathlib.Core.Path.{_≡_}
-use mathlib.Core.List.{List, [], _∷_, reverse}
-use lib.ListN.{length}
+use mathlib.Core.List.{List, reverse}
 use Rattle.limits.specs.Limits.{most-states, most-rules, most-tags, longest-pattern}
 use Rattle.answers.specs.Outcome.{Outcome, andThen}
 use Rattle.cascades.specs.Rule.{Rule, ValidRule, Cascade}
@@ -10,23 +9,13 @@ use Rattle.books.specs.Kept.{Kept as Arrays, Shaped, ruleAt, rulesDown}
 use Rattle.tables.specs.Bytes.{encode}
 use Rattle.compilation.specs.Compile.{compileRules, fitting}
 use Rattle.workspace.specs.declared.Grid.{Grid}
-use Rattle.workspace.specs.Cells.{Sized, Kept, In-rows}
-use Rattle.workspace.specs.Holds.{Holds}
-use Rattle.transducers.specs.Table.{Table}
-use Rattle.minimal.specs.TableOf.{tableOf}
-use Rattle.answers.specs.Outcome.{result, refused}
-use Rattle.compilation.specs.Compile.{withRules}
+use Rattle.workspace.specs.Cells.{Sized}
 use Rattle.compiler.specs.declared.CompileAnswer.{CompileAnswer}
 use Rattle.compiler.specs.Answer.{Gave, worked}
 
 -- the first m rules of the arrays
 abbrev pub upto : Arrays → ℕ → List Rule
 upto a m = reverse (rulesDown a m)
-
--- n rules of the arrays from the i-th on
-abbrev pub from : Arrays → ℕ → ℕ → List Rule
-from a i zero = []
-from a i (suc n) = ruleAt a i ∷ from a (suc i) n
 
 -- the outcome for the first m rules of the arrays, with a ceiling and so much room for the bytes
 abbrev pub outcome : ℕ → ℕ → ℕ → Arrays → ℕ → Outcome (List ℕ)
@@ -43,15 +32,6 @@ pub record Compilable (g : Grid) (W : List ℕ) (ceiling m : ℕ) (a : Arrays) :
   pub few : m ≤ most-rules
   pub shaped : Shaped a
   pub valid : (i : ℕ) → i < m → ValidRule longest-pattern (g .tags) (ruleAt a i)
-
--- the first i rules are done: the rows from 0 hold their table of n states, and compiling goes on from there
-pub record Progress (g : Grid) (W X : List ℕ) (ceiling m : ℕ) (a : Arrays) (i n : ℕ) : Type 0 where
-  pub kept : Kept g W X (In-rows 0 (g .rows))
-  pub inside : i ≤ m
-  pub few : n ≤ ceiling
-  pub long : length (tableOf (g .tags) (upto a i)) ≡ n
-  pub holds : Holds g X 0 (tableOf (g .tags) (upto a i))
-  pub goes-on : compileRules (g .tags) ceiling (upto a m) ≡ withRules (g .tags) ceiling i (tableOf (g .tags) (upto a i)) (from a i (m - i))
 
 -- compiling has ended: the answer, the output slice and the work slice
 pub record Ended (o : Outcome (List ℕ)) (entries : ℕ) (W X before after : List ℕ) (answer : CompileAnswer) : Type 0 where

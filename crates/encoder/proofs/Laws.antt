@@ -5,11 +5,9 @@ use native.Mathlib.Numerals.{add-one, add-two, add-three}
 use native.Mathlib.Nat.{add-zero}
 use mathlib.Core.Path.{_≡_, refl, sym, ap, _∙_, subst}
 use mathlib.Core.List.{List, [], _∷_, _++_, append-assoc, append-nil}
-use lib.ListN.{length, getD, set, take, length-append, length-set}
-use lib.Seq.{sets, length-sets, take-suc, take-all, length-take-le}
-use Rattle.words.specs.Word.{Below}
+use lib.ListN.{length, getD, set, take, length-append}
+use lib.Seq.{sets, length-sets, take-suc, take-all}
 use Rattle.words.proofs.Word.{below-at}
-use Rattle.transducers.specs.Table.{Row}
 use Rattle.transducers.specs.Tabulate.{tabulate}
 use Rattle.transducers.proofs.Tabulate.{length-tabulate}
 use Rattle.tables.specs.Bytes.{tagged, joined, stepBytes, rowBytes, encode}

@@ -3,7 +3,7 @@
 use workspace::Grid;
 use workspace::get;
 ghost use mathlib.Core.Path.{_≡_};
-ghost use Prim.Native.Nat.{ℕ, _+_, _*_, _≤_, _<_};
+ghost use Prim.Native.Nat.{_+_, _*_, _≤_, _<_};
 ghost use lib.ListN.{length};
 ghost use Rattle.tables.specs.Bytes.{tagged, joined, stepBytes, rowBytes, encode};
 ghost use Rattle.workspace.specs.Cells.{at, word, Sized};

@@ -116,9 +116,6 @@ module _ (g : Grid) (W : List ℕ) (base n : ℕ) (first : Bool) (s : Part g W b
   same : tableAt g Y base n ≡ tableAt g X base n
   same = same-table g X base n x-ready Y 1 2 (omega arith) (taken .kept)
 
-  x-table : tableAt g X base n ≡ tableAt g W base n
-  x-table = same-table g W base n (s .ready) X 2 4 (omega arith) (placed .kept)
-
   x-class : (q : ℕ) → classOf g X base q ≡ classOf g W base q
   x-class = class-same g W base n (s .ready) X 2 4 (omega arith) (omega arith) (placed .kept)
 

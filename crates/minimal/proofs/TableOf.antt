@@ -4,8 +4,7 @@ use native.Mathlib.Omega.{arith}
 use mathlib.Core.Path.{_≡_, refl, sym, ap, _∙_}
 use mathlib.Core.Logic.{_↔_}
 use mathlib.Core.List.{List, [], _∷_, _++_}
-use lib.ListN.{length, take, getD}
-use lib.Seq.{take-suc}
+use lib.ListN.{length, take}
 use Rattle.words.specs.Word.{Below}
 use Rattle.words.specs.Front.{first, Prefix}
 use Rattle.cascades.specs.Rule.{Rule, ValidRule, ValidRules}
@@ -155,10 +154,6 @@ addAll-append k t (r ∷ rs) ss = addAll-append k (add k t (ruleTable k r)) rs s
 
 pub tableOf-append : (k : ℕ) (rs : List Rule) (r : Rule) → tableOf k (rs ++ (r ∷ [])) ≡ add k (tableOf k rs) (ruleTable k r)
 tableOf-append k rs r = addAll-append k (table k identity) rs (r ∷ [])
-
-pub tableOf-next : (k : ℕ) (rs : List Rule) (i : ℕ) (d : Rule) → i < length rs
-    → tableOf k (take (suc i) rs) ≡ add k (tableOf k (take i rs)) (ruleTable k (getD rs i d))
-tableOf-next k rs i d h = ap (tableOf k) (take-suc rs i d h) ∙ tableOf-append k (take i rs) (getD rs i d)
 
 pub valid-take : (l k i : ℕ) (rs : List Rule) → ValidRules l k rs → ValidRules l k (take i rs)
 valid-take l k zero rs ok = tt

@@ -116,9 +116,6 @@ module _ (g : Grid) (W : List ℕ) (base q a : ℕ) (ok : Strip g W base q a) wh
     other-is : other ≡ size g W base (nextAt g W base q a)
     other-is = is-other ∙ ap (size g W base) is-next
 
-    pub got-next : base + next < g .rows
-    got-next = omega (arith, is-next, ok .to .row)
-
     pub got-to : (X : List ℕ) → Kept g W X (Cell (base + q) a 1)
         → Inner g X (base + next) (g .tags) 7 × (other ≤ at g X (base + next) (g .tags) 7) × (own ≤ long + other) × (long + other + 2 ≤ g .depth)
     got-to X k =

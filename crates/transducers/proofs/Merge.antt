@@ -2,7 +2,6 @@
 -- same, and no two states that it reaches still put out the same.
 use Prim.Native.Nat.{ℕ, suc, _*_, _-_, _≤_, _<_}
 use native.Mathlib.Omega.{arith}
-use native.Mathlib.Decide.{ℕ-discrete}
 use mathlib.Core.Path.{_≡_, refl, sym, ap, ap₂, _∙_, subst}
 use mathlib.Core.List.{List, [], _∷_, _++_, map}
 use lib.ListN.{length, getD, length-map, List·getD-map}
@@ -46,16 +45,6 @@ module _ (k : ℕ) (S : Shape) (inside : Inside k S) where
   -- the name of a class is its own
   class-class : (c : ℕ → ℕ) → Classes k S c → (q : ℕ) → q < S .count → c (c q) ≡ c q
   class-class c m q h = m .coarsest (c q) q (omega (arith, m .low q h)) h (class-puts c m q h)
-
-  -- classes are as coarse as can be where words tell them apart
-  pub coarsest-by-words : (c : ℕ → ℕ)
-      → ((p q : ℕ) → p < S .count → q < S .count → (c p ≡ c q → ⊥) → (x : List ℕ) × Below k x × (puts S p x ≡ puts S q x → ⊥))
-      → (p q : ℕ) → p < S .count → q < S .count → Same k (puts S p) (puts S q) → c p ≡ c q
-  coarsest-by-words c word p q hp hq same = go (ℕ-discrete (c p) (c q))
-    where
-      go : Dec (c p ≡ c q) → c p ≡ c q
-      go (yes e) = e
-      go (no n) = let w = word p q hp hq n in absurd (w .2 (same (w .0) (w .1)))
 
 -- classes that hold together states that put out the same still do when a class is split by final words, outputs and classes
 -- of next states, one class at a time or all at once, in any order

@@ -152,10 +152,6 @@ module _ (k : ℕ) (t : Table) (rows : Rows k t) (sound : Sound k (shape t)) whe
   pub fronts-any : (F : ℕ → List ℕ) → Consistent k (shape t) F → Above k (shape t) F → (q : ℕ) → q < length t → F q ≡ front (fronts t) q
   fronts-any F c a = fronts-unique k (shape t) (sound .next-below) F (front (fronts t)) c a fronts-consistent fronts-above
 
-  -- any other consistent fronts are prefixes of them
-  pub fronts-greatest : (F : ℕ → List ℕ) → Consistent k (shape t) F → (q : ℕ) → q < length t → Prefix (F q) (front (fronts t) q)
-  fronts-greatest F c q h = fronts-above q h (F q) (begins-puts k (shape t) F c (sound .next-below) q h)
-
 module _ (k : ℕ) (S : Shape) (F : ℕ → List ℕ) (sound : Sound k S) (c : Consistent k S F) where
   strip-output : (q a : ℕ) → q < S .count → a < k → F q ++ stripped S F .output q a ≡ S .output q a ++ F (S .next q a)
   strip-output q a h g = begins-drop (c .steps q a h g)

@@ -323,9 +323,6 @@ module _ (k : ℕ) (t : Table) (rows : Rows k t) (sound : Sound k (shape t)) whe
           never p b (inr h) = omega (arith, h .1)
 
   -- the members of the order
-  pub order-some : 0 < length (order t)
-  order-some = ordered .members .some
-
   pub order-below : (q : ℕ) → q < length (order t) → getD (order t) q 0 < length t
   order-below = ordered .members .below
 

@@ -1,6 +1,6 @@
 -- Tables: the states of a transducer as rows, with a step for each tag.
 use Prim.Native.Nat.{ℕ}
-use mathlib.Core.List.{List, [], _∷_}
+use mathlib.Core.List.{List, []}
 use lib.ListN.{length, getD}
 use Rattle.transducers.specs.Transducer.{Shape}
 

@@ -1,8 +1,7 @@
 -- `compiler::compile` meets its contract.
-use Prim.Native.Nat.{ℕ}
 use native.Mathlib.Omega.{arith}
 use borrow.Author.Needs.{needs}
-use mathlib.Core.Path.{_≡_, refl}
+use mathlib.Core.Path.{refl}
 use lib.ListN.{length}
 use Rattle.answers.specs.declared.Refusal.the-variants.{Bare}
 use Rattle.books.specs.Read.{read}

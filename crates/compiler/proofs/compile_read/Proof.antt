@@ -1,8 +1,8 @@
 -- `compiler::compile_read` meets its contract.
-use Prim.Native.Nat.{ℕ, _+_, _*_}
+use Prim.Native.Nat.{_+_, _*_}
 use native.Mathlib.Omega.{arith}
 use borrow.Author.Needs.{needs}
-use mathlib.Core.Path.{_≡_, refl}
+use mathlib.Core.Path.{refl}
 use Rattle.books.specs.Kept.{Kept as Arrays, kept as arrays-of}
 use Rattle.compiler.proofs.Reading.{product-small, compilable, readable, short, ended}
 use Rattle.compiler.proofs.compile_read.Statement.{statement}

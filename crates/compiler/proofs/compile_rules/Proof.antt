@@ -2,13 +2,12 @@
 use Prim.Native.Nat.{ℕ, _+_, _-_}
 use native.Mathlib.Omega.{arith}
 use borrow.Author.Needs.{needs}
-use mathlib.Core.Path.{_≡_, refl, sym, subst, _∙_}
+use mathlib.Core.Path.{_≡_, refl}
 use mathlib.Core.List.{List}
 use lib.ListN.{length}
 use Rattle.books.specs.Kept.{Kept as Arrays, kept as arrays-of}
-use Rattle.workspace.specs.Cells.{In-rows}
-use Rattle.compiler.specs.Rules.{Compilable, Progress}
-use Rattle.compiler.proofs.Progress.{begun, progress-start, addable, progress-next, too-many, kept-too-many, gave-rule, all-kept, ready, outcome-is}
+use Rattle.compiler.specs.Rules.{Compilable}
+use Rattle.compiler.proofs.Progress.{Progress, begun, progress-start, addable, progress-next, too-many, kept-too-many, gave-rule, all-kept, ready, outcome-is}
 use Rattle.compiler.proofs.compile_rules.Statement.{statement}
 use Rattle.compiler.proofs.compile_rules.Tie as tie
 use Rattle.compiler.proofs.compile_rules.Reads as reads

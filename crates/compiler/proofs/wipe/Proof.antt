@@ -3,9 +3,9 @@ use Prim.Native.Nat.{ℕ, _-_, _≤_}
 use native.Mathlib.Omega.{arith}
 use borrow.Author.Needs.{needs}
 use mathlib.Core.Path.{_≡_, refl, ap, _∙_}
-use mathlib.Core.List.{List, _++_}
+use mathlib.Core.List.{_++_}
 use lib.ListN.{length, drop, replicate, length-set}
-use Rattle.compiler.proofs.Ending.{wiped-next, wiped-long}
+use Rattle.compiler.proofs.Ending.{wiped-next}
 use Rattle.compiler.proofs.wipe.Statement.{statement}
 use Rattle.compiler.proofs.wipe.Tie as tie
 use Rattle.compiler.proofs.wipe.Reads as reads

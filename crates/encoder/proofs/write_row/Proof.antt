@@ -1,12 +1,12 @@
 -- `encoder::write_row` meets its contract.
-use Prim.Native.Nat.{ℕ, _+_}
+use Prim.Native.Nat.{ℕ}
 use native.Mathlib.Omega.{arith}
 use borrow.Author.Needs.{needs}
 use mathlib.Core.Path.{_≡_, sym, ap, _∙_}
 use mathlib.Core.List.{List, _∷_, _++_}
 use lib.ListN.{length, length-set, length-append}
 use Rattle.tables.specs.Bytes.{tagged, joined, stepBytes, rowBytes}
-use Rattle.workspace.specs.Cells.{at, word}
+use Rattle.workspace.specs.Cells.{word}
 use Rattle.workspace.proofs.Cells.{word-length}
 use Rattle.encoder.specs.Encoding.{stepsIn, rowIn}
 use Rattle.encoder.proofs.Laws.{wrote-two, wrote-then, wrote-is}

@@ -2,13 +2,12 @@
 use Prim.Native.Nat.{ℕ, _+_, _-_, _≤_}
 use native.Mathlib.Omega.{arith}
 use borrow.Author.Needs.{needs}
-use mathlib.Core.Path.{_≡_, refl, ap, _∙_}
-use mathlib.Core.List.{List}
+use mathlib.Core.Path.{_≡_, ap, _∙_}
 use lib.ListN.{length}
 use Rattle.transducers.specs.Table.{Row}
 use Rattle.tables.specs.Bytes.{rowBytes}
 use Rattle.encoder.specs.Encoding.{Wrote, rowIn}
-use Rattle.encoder.proofs.Laws.{first-parts, parts-room, parts-wrote, wrote-none, wrote-is}
+use Rattle.encoder.proofs.Laws.{first-parts, parts-room, parts-wrote, wrote-is}
 use Rattle.encoder.proofs.write_rows.Statement.{statement}
 use Rattle.encoder.proofs.write_rows.Tie as tie
 use Rattle.encoder.proofs.write_rows.Reads as reads

@@ -1,10 +1,9 @@
 -- `encoder::write_step` meets its contract.
-use Prim.Native.Nat.{ℕ, _+_, _/_, _%_}
 use native.Mathlib.Omega.{arith}
 use borrow.Author.Needs.{needs}
-use mathlib.Core.Path.{_≡_, ap, _∙_}
-use mathlib.Core.List.{List, _∷_}
-use lib.ListN.{length, length-set}
+use mathlib.Core.Path.{_∙_}
+use mathlib.Core.List.{_∷_}
+use lib.ListN.{length-set}
 use Rattle.tables.specs.Bytes.{tagged}
 use Rattle.workspace.specs.Cells.{word}
 use Rattle.encoder.proofs.Laws.{wrote-three, wrote-is}

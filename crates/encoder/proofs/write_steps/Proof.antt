@@ -1,13 +1,12 @@
 -- `encoder::write_steps` meets its contract. The loop's invariant: the steps passed have been written.
-use Prim.Native.Nat.{ℕ, _+_, _-_, _≤_}
+use Prim.Native.Nat.{_-_, _≤_}
 use native.Mathlib.Omega.{arith}
 use borrow.Author.Needs.{needs}
-use mathlib.Core.Path.{_≡_, refl, ap, _∙_}
-use mathlib.Core.List.{List}
+use mathlib.Core.Path.{_≡_, ap, _∙_}
 use lib.ListN.{length}
 use Rattle.tables.specs.Bytes.{stepBytes}
 use Rattle.encoder.specs.Encoding.{Wrote, stepIn}
-use Rattle.encoder.proofs.Laws.{first-parts, parts-room, parts-wrote, wrote-none, wrote-is}
+use Rattle.encoder.proofs.Laws.{first-parts, parts-room, parts-wrote, wrote-is}
 use Rattle.encoder.proofs.write_steps.Statement.{statement}
 use Rattle.encoder.proofs.write_steps.Tie as tie
 use Rattle.encoder.proofs.write_steps.Reads as reads

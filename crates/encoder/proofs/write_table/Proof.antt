@@ -1,11 +1,11 @@
 -- `encoder::write_table` meets its contract.
-use Prim.Native.Nat.{ℕ, _+_, _/_, _%_}
+use Prim.Native.Nat.{ℕ, _+_}
 use native.Mathlib.Omega.{arith}
 use borrow.Author.Needs.{needs}
-use mathlib.Core.Path.{_≡_, ap, _∙_}
+use mathlib.Core.Path.{_≡_, _∙_}
 use mathlib.Core.List.{List, [], _∷_, _++_}
 use lib.ListN.{length, length-set, length-append}
-use Rattle.tables.specs.Bytes.{joined, rowBytes, encode}
+use Rattle.tables.specs.Bytes.{joined, rowBytes}
 use Rattle.encoder.specs.Encoding.{rowsIn}
 use Rattle.encoder.proofs.Laws.{wrote-head, wrote-is, encode-is}
 use Rattle.encoder.proofs.write_table.Statement.{statement}

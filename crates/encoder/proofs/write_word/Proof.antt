@@ -9,7 +9,7 @@ use Rattle.tables.specs.Bytes.{tagged}
 use Rattle.workspace.specs.Cells.{at, word}
 use Rattle.workspace.proofs.Cells.{word-length}
 use Rattle.encoder.specs.Encoding.{Wrote}
-use Rattle.encoder.proofs.Laws.{tagged-next, tagged-all, tagged-length, wrote-none, wrote-long, tag-got}
+use Rattle.encoder.proofs.Laws.{tagged-next, tagged-all, tagged-length, wrote-none, tag-got}
 use Rattle.encoder.proofs.write_word.Statement.{statement}
 use Rattle.encoder.proofs.write_word.Tie as tie
 use Rattle.encoder.proofs.write_word.Reads as reads

@@ -1,7 +1,7 @@
 -- `identity::write_step` meets its contract.
 use native.Mathlib.Omega.{arith}
 use borrow.Author.Needs.{needs}
-use mathlib.Core.List.{[], _∷_, _++_}
+use mathlib.Core.List.{[], _∷_}
 use Rattle.workspace.proofs.Cells.{written-more}
 use Rattle.workspace.proofs.Holds.{stepped}
 use Rattle.identity.proofs.write_step.Statement.{statement}
