@@ -54,7 +54,7 @@ rows-length (r ∷ rs) e =
       rows-length rs (e .1),
     )
 
-valid-length : (k : ℕ) (t : Table) → ValidTable k t → length (encode k t) < 0xffffff
+pub valid-length : (k : ℕ) (t : Table) → ValidTable k t → length (encode k t) < 0xffffff
 valid-length k t v =
     let short : Every ShortRow t =
     every-of ShortRow t no-row
@@ -76,7 +76,7 @@ still true o e = e
 still false o e = refl
 
 -- each part is read, or refused as 12
-data Read {A : Type 0} (o : Outcome A) : Type 0 where
+pub data Read {A : Type 0} (o : Outcome A) : Type 0 where
   gave : (v : A) → o ≡ result v → Read o
   refuses : o ≡ malformed → Read o
 
@@ -119,7 +119,7 @@ module _ (k s : ℕ) where
       read-then _ _ (read-many (readRow k s) rowBytes read-row s bs)
       (λ t. read-provided (ended (drop (length (joined rowBytes t)) bs)) _ (read-provided (eqb (length (row t 0 .final)) 0) _ (read-provided (rowsBalanced t t) _ (gave _ refl))))
 
-read-decode : (bs : List ℕ) → Read (decode bs)
+pub read-decode : (bs : List ℕ) → Read (decode bs)
 read-decode [] = refuses refl
 read-decode (c ∷ []) = refuses refl
 read-decode (c ∷ k ∷ []) = refuses refl

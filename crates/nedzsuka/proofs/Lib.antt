@@ -1,0 +1,2 @@
+-- Answers that fit in one number.
+pub mod Fit

@@ -1,0 +1,2 @@
+-- The door for hosts in C.
+pub mod Packed

@@ -1,0 +1,89 @@
+// The door for hosts in C: compile and both runs, each answering one number. include/nedzsuka.h tells a host what they promise.
+use answers::Refusal;
+use answers::RunAnswer;
+use compiler::CompileAnswer;
+ghost use mathlib.Core.Path.{_≡_};
+ghost use Prim.Native.Nat.{ℕ, _+_, _*_, _^_, _<_};
+ghost use lib.ListN.{length};
+ghost use Rattle.answers.specs.Answer.{refusal, runOutcome};
+ghost use Rattle.books.specs.Read.{read};
+ghost use Rattle.sentences.specs.Run.{changed, written};
+ghost use Rattle.tagger.specs.Run.{bookRun};
+ghost use Rattle.tables.specs.Run.{tableRun};
+ghost use Rattle.compilation.specs.Compile.{compileAnswer};
+ghost use Rattle.compiler.specs.Answer.{compileOutcome, longOf, required, worked};
+ghost use Rattle.nedzsuka.specs.Packed.{packed, Fits};
+
+fn pack(upper: usize, number: u8) -> u64
+    requires { ⌜ upper < 2 ^ 56 ⌝ }
+    ensures { λ r. ⌜ r ≡ upper * 256 + number ⌝ }
+{
+    upper as u64 * 256 + number as u64
+}
+
+fn pack_refusal(given: Refusal) -> u64
+    requires { ⌜ Fits (refusal given) ⌝ }
+    ensures { λ r. ⌜ r ≡ packed (refusal given) ⌝ }
+{
+    match given {
+        Refusal::AtByte { number, .. } => pack(0, number),
+        Refusal::AtRule { number, rule } => pack(rule, number),
+        Refusal::Bare { number } => pack(0, number),
+    }
+}
+
+fn pack_run(answer: RunAnswer) -> u64
+    requires { ⌜ Fits (runOutcome answer) ⌝ }
+    ensures { λ r. ⌜ r ≡ packed (runOutcome answer) ⌝ }
+{
+    match answer {
+        RunAnswer::Changed(count) => pack(count, 0),
+        RunAnswer::Refused(given) => pack_refusal(given),
+    }
+}
+
+fn pack_compile(answer: CompileAnswer) -> u64
+    requires { ⌜ Fits (compileOutcome answer) ⌝ }
+    ensures { λ r. ⌜ r ≡ packed (compileOutcome answer) ⌝ }
+{
+    match answer {
+        CompileAnswer::Table(size) => pack(size, 0),
+        CompileAnswer::Refused(given) => pack_refusal(given),
+    }
+}
+
+// compiler::compile: the number of the table's bytes, or the refusal.
+#[no_mangle]
+pub extern "C" fn nedzsuka_compile(
+    book: &[u8],
+    ceiling: u64,
+    work: &mut [u16],
+    out: &mut [u8],
+) -> u64
+    ensures answer { λ r. ⌜ r ≡ packed (longOf (compileAnswer (now (book .entry)) ceiling (length (now (work .entry))) (length (now (out .entry))))) ⌝ }
+    ensures out { λ r. ⌜ now (out .exit) ≡ written (compileAnswer (now (book .entry)) ceiling (length (now (work .entry))) (length (now (out .entry)))) (now (out .entry)) ⌝ }
+    ensures work { λ r. ⌜ now (work .exit) ≡ worked (compileAnswer (now (book .entry)) ceiling (length (now (work .entry))) (length (now (out .entry)))) (required ceiling (read (now (book .entry)))) (now (work .entry)) ⌝ }
+{
+    let answer = compiler::compile(book, ceiling as usize, work, out);
+    pack_compile(answer)
+}
+
+// tagger::run_book: the number of changed tags, or the refusal.
+#[no_mangle]
+pub extern "C" fn nedzsuka_run_book(book: &[u8], sentence: &[u8], out: &mut [u8]) -> u64
+    ensures answer { λ r. ⌜ r ≡ packed (changed (now (sentence .entry)) (bookRun (now (book .entry)) (now (sentence .entry)) (length (now (out .entry))))) ⌝ }
+    ensures out { λ r. ⌜ now (out .exit) ≡ written (bookRun (now (book .entry)) (now (sentence .entry)) (length (now (out .entry)))) (now (out .entry)) ⌝ }
+{
+    let answer = tagger::run_book(book, sentence, out);
+    pack_run(answer)
+}
+
+// tables::run_table: the number of changed tags, or the refusal.
+#[no_mangle]
+pub extern "C" fn nedzsuka_run_table(table: &[u8], sentence: &[u8], out: &mut [u8]) -> u64
+    ensures answer { λ r. ⌜ r ≡ packed (changed (now (sentence .entry)) (tableRun (now (table .entry)) (now (sentence .entry)) (length (now (out .entry))))) ⌝ }
+    ensures out { λ r. ⌜ now (out .exit) ≡ written (tableRun (now (table .entry)) (now (sentence .entry)) (length (now (out .entry)))) (now (out .entry)) ⌝ }
+{
+    let answer = tables::run_table(table, sentence, out);
+    pack_run(answer)
+}
