@@ -1,8 +1,10 @@
 -- The states of the composition as pairs of states: s is (s / m, s % m).
-use Prim.Native.Nat.{ℕ, zero, suc, _+_, _*_, _/_, _%_, _≤_, _<_}
+use Prim.Native.Nat.{ℕ, zero, suc, _+_, _-_, _*_, _/_, _%_, _≤_, _<_}
 use native.Mathlib.Omega.{arith}
+use native.Mathlib.Decide.{ℕ-discrete}
 use native.Mathlib.Nat.{mul-le-mul-right, suc-mul, mod-lt, div-lt-iff-lt-mul}
 use mathlib.Core.Path.{_≡_, refl, sym, ap, ap₂, _∙_, subst}
+use mathlib.Core.Logic.{inl, inr}
 use mathlib.Core.List.{List, [], _∷_, _++_, append-nil}
 use lib.ListN.{length, length-append}
 use Rattle.words.specs.Word.{Below}
@@ -10,18 +12,25 @@ use Rattle.transducers.specs.Transducer.{Shape, puts}
 use Rattle.transducers.specs.Table.{Table, shape}
 use Rattle.transducers.specs.Run.{walk, outputs}
 use Rattle.transducers.specs.Canonical.{Inside, Sound, Held}
-use Rattle.transducers.specs.Tabulate.{table}
+use Rattle.transducers.specs.Tabulate.{table, Doing}
 use Rattle.transducers.specs.Compose.{product, compose}
 use Rattle.transducers.proofs.Run.{puts-append, walk-below, outputs-length}
 use Rattle.transducers.proofs.Compose.{final-length, sound-product, doing-compose}
-use Rattle.transducers.proofs.Tabulate.{length-table}
+use Rattle.transducers.proofs.Tabulate.{length-table, agree-table, puts-table, doing-table}
 use Rattle.workspace.specs.declared.Grid.{Grid}
-use Rattle.workspace.specs.Cells.{at, word, Sized, Inner, Kept, In-rows, Cell, Got, Put, Written}
-use Rattle.workspace.specs.Holds.{StepAt, Stepped, RowAt, Roomy, Holds, Filling, tableAt, standing}
-use Rattle.workspace.proofs.Cells.{kept-wider, word-length, sized-kept, written-more, written-is}
-use Rattle.workspace.proofs.Holds.{holds-kept, length-at, table-at, holds-at, roomy-held, holds-table, stepped-after}
+use Rattle.workspace.specs.Cells.{at, word, Sized, Inner, Kept, Entry, In-rows, Cell, Spare, Got, Put, Written}
+use Rattle.workspace.specs.Holds.{StepAt, RowAt, Roomy, Holds, tableAt, held, standing}
+use Rattle.workspace.proofs.Cells.{kept-wider, word-length, word-kept, sized-kept, written-more, written-is}
+use Rattle.workspace.proofs.Holds.{holds-kept, length-at, table-at, holds-at, roomy-held, holds-table}
 use Rattle.compose.specs.Runs.{Runs, Ran}
+use Rattle.compose.specs.Pairs.{pairOf, markOf, Pairs, Room, Grown, Entered, Leads, Step-notes, Row-notes, Step-paired, State, Searching}
 use Rattle.compose.specs.Composed.{Composable, Composed}
+use Rattle.compose.proofs.Cover.{Covers, covers-puts, covers-sound, covers-held}
+use Rattle.compose.proofs.Notes.{grown-then, grown-wider, grown-by}
+
+nonzero : (x : ℕ) → (x ≡ 0 → ⊥) → 0 < x
+nonzero zero n = absurd (n refl)
+nonzero (suc x) n = omega arith
 
 -- the composition at the pair
 module _ (A R : Shape) (m s a : ℕ) (e : R .count ≡ m) where
@@ -61,9 +70,9 @@ module _ (g : Grid) (W : List ℕ) (first n second m base : ℕ) (ok : Composabl
   in-second s = omega (arith, pair-second s, length-at g W second m)
 
   -- the run over a word of the first state's row, its output or final word
-  runs : (s c e : ℕ) (w : List ℕ) → s < n * m → c < g .tags + 1 → word g W (first + s / m) c e ≡ w → Below (g .tags) w
-      → e + length w < g .depth → e + ok .second-most + length w < g .depth → Runs g W second m (s % m) (first + s / m) c e (base + s) c e
-  runs s c e w h hc is below inner room =
+  runs : (i s c e : ℕ) (w : List ℕ) → i < n * m → s < n * m → c < g .tags + 1 → word g W (first + s / m) c e ≡ w → Below (g .tags) w
+      → e + length w < g .depth → e + ok .second-most + length w < g .depth → Runs g W second m (s % m) (first + s / m) c e (base + i) c e
+  runs i s c e w hi h hc is below inner room =
       record {
         sized = ok .sized;
         holds = ok .second-holds;
@@ -77,24 +86,24 @@ module _ (g : Grid) (W : List ℕ) (first n second m base : ℕ) (ok : Composabl
         from-below = rw is below;
         row = omega (arith, ok .second-holds .room, ok .above);
         cell = hc;
-        other = λ i j. omega (arith, ok .below, pair-first s h);
+        other = λ p j. omega (arith, ok .below, pair-first s h);
         before = omega (arith, ok .above);
         room = rw is
             (omega (arith, ok .second-held (s % m) (in-second s), outputs-length (g .tags) (standing g W second m) (ok .second-sound) (s % m) (in-second s) w below));
       }
 
-  pub runs-output : (s a : ℕ) → s < n * m → a < g .tags → Runs g W second m (s % m) (first + s / m) a 1 (base + s) a 1
-  runs-output s a h ha =
+  pub runs-output : (i s a : ℕ) → i < n * m → s < n * m → a < g .tags → Runs g W second m (s % m) (first + s / m) a 1 (base + i) a 1
+  runs-output i s a hi h ha =
       let q = s / m in
       let o = ok .first-sound .balanced q a (in-first s h) ha in
-      runs s a 1 (standing g W first n .output q a) h (omega arith) (ok .first-holds .states q (in-first s h) .steps a ha .output-is)
+      runs i s a 1 (standing g W first n .output q a) hi h (omega arith) (ok .first-holds .states q (in-first s h) .steps a ha .output-is)
       (ok .first-sound .output-below q a (in-first s h) ha)
       (omega (arith, o, ok .room, ok .first-held q (in-first s h))) (omega (arith, o, ok .room, ok .first-held q (in-first s h)))
 
-  pub runs-final : (s : ℕ) → s < n * m → Runs g W second m (s % m) (first + s / m) (g .tags) 7 (base + s) (g .tags) 7
-  runs-final s h =
+  pub runs-final : (i s : ℕ) → i < n * m → s < n * m → Runs g W second m (s % m) (first + s / m) (g .tags) 7 (base + i) (g .tags) 7
+  runs-final i s hi h =
       let q = s / m in
-      runs s (g .tags) 7 (standing g W first n .final q) h (omega arith) (ok .first-holds .states q (in-first s h) .final-is)
+      runs i s (g .tags) 7 (standing g W first n .final q) hi h (omega arith) (ok .first-holds .states q (in-first s h) .final-is)
       (ok .first-sound .final-below q (in-first s h))
       (omega (arith, ok .room, ok .first-held q (in-first s h))) (omega (arith, ok .room, ok .first-held q (in-first s h)))
 
@@ -122,8 +131,11 @@ module _ (g : Grid) (W : List ℕ) (first n second m base : ℕ) (ok : Composabl
   pub count-product : product (standing g W first n) (standing g W second m) .count ≡ n * m
   count-product = rw (length-at g W first n, length-at g W second m)
 
-  module _ (s a : ℕ) (h : s < n * m) (ha : a < g .tags) (X : List ℕ) (to : ℕ)
-      (ran : Ran g W X second m (s % m) (first + s / m) a 1 (base + s) a 1 [] to) where
+  pub room : Room g W base (n * m)
+  room = record { sized = ok .sized; inside = omega (arith, ok .above, ok .second-holds .room); deep = omega (arith, ok .room) }
+
+  module _ (i s a : ℕ) (hi : i < n * m) (h : s < n * m) (ha : a < g .tags) (X : List ℕ) (to : ℕ)
+      (ran : Ran g W X second m (s % m) (first + s / m) a 1 (base + i) a 1 [] to) where
     to-is : to ≡ walk (standing g W second m) (s % m) (standing g W first n .output (s / m) a)
     to-is = ran .ends ∙ ap (walk (standing g W second m) (s % m)) (ok .first-holds .states (s / m) (in-first s h) .steps a ha .output-is)
 
@@ -155,18 +167,87 @@ module _ (g : Grid) (W : List ℕ) (first n second m base : ℕ) (ok : Composabl
         omega (arith, ok .above, ok .second-holds .room, ok .sized .rows-small),
       )
 
-      pub step-done : (Y : List ℕ) → Put g X Y (base + s) a 0 (next * m + to)
-          → Stepped g W Y (base + s) a (product (standing g W first n) (standing g W second m) .next s a) (product (standing g W first n) (standing g W second m) .output s a)
-      step-done Y p =
-          let A = standing g W first n in
-          let R = standing g W second m in
-          let o = ap (outputs R (s % m)) (ok .first-holds .states (s / m) (in-first s h) .steps a ha .output-is) ∙ pair-output A R m s a (length-at g W second m) in
-          let e = ap₂ (λ (x y : ℕ). x * m + y) next-is to-is ∙ pair-next A R m s a (length-at g W second m) in
-          stepped-after g W X Y (base + s) a (product A R .next s a) (product A R .output s a) ha
-          (omega (arith, roomy-product .outputs s a (omega (arith, count-product)) ha)) (written-is g W X (base + s) a 1 _ _ o (ran .wrote))
-          (rw (← e) p)
+      pair-is : next * m + to ≡ product (standing g W first n) (standing g W second m) .next s a
+      pair-is =
+          ap₂ (λ (x y : ℕ). x * m + y) next-is to-is ∙ pair-next (standing g W first n) (standing g W second m) m s a (length-at g W second m)
 
-  module _ (s : ℕ) (h : s < n * m) (X : List ℕ) (to : ℕ) (ran : Ran g W X second m (s % m) (first + s / m) (g .tags) 7 (base + s) (g .tags) 7 [] to) where
+      output-is : word g X (base + i) a 1 ≡ product (standing g W first n) (standing g W second m) .output s a
+      output-is =
+          ran .wrote .here
+          ∙ ap (outputs (standing g W second m) (s % m)) (ok .first-holds .states (s / m) (in-first s h) .steps a ha .output-is)
+          ∙ pair-output (standing g W first n) (standing g W second m) m s a (length-at g W second m)
+
+      output-inside : 1 + at g X (base + i) a 1 < g .depth
+      output-inside =
+          omega (arith, word-length g X (base + i) a 1, ap length output-is, roomy-product .outputs s a (omega (arith, count-product)) ha)
+
+      -- the run leaves the notes of pairs
+      module _ (len : ℕ) (pairs : Pairs g W base (n * m) len) where
+        run-grown : Grown (Step-notes g base (n * m) i a) g W X base (n * m) len len
+        run-grown =
+            grown-wider g base (n * m) (Step-notes g base (n * m) i a) (Cell (base + i) a 1) W X len len
+            (grown-by g base (n * m) (Cell (base + i) a 1) W X len (room .deep) pairs (ran .wrote .kept) (λ r e he p. omega (arith, p .1)))
+            (λ r c e p. inl (p .0, p .1, omega arith))
+
+        pub run-pairs : Pairs g X base (n * m) len
+        run-pairs = run-grown .pairs
+
+        pub run-room : Room g X base (n * m)
+        run-room = record { sized = sized-kept g W X (ok .sized) (ran .wrote .kept .long); inside = room .inside; deep = room .deep }
+
+        -- the pair of the next states has got a state
+        module _ (Y : List ℕ) (more : ℕ) (entered : Entered g X Y base (n * m) len (next * m + to) more) (state : ℕ)
+            (mark : Got g Y (base + (next * m + to)) (g .tags) 1 state) where
+          enter-grown : Grown (Step-notes g base (n * m) i a) g X Y base (n * m) len more
+          enter-grown =
+              grown-wider g base (n * m) (Step-notes g base (n * m) i a) (Spare g base (base + n * m) 0 2) X Y len more (entered .grown) (λ r c e p. inr p)
+
+          has : (markOf g Y base (next * m + to) ≤ more) × (pairOf g Y base (markOf g Y base (next * m + to) - 1) ≡ next * m + to)
+          has = entered .grown .pairs .marked (next * m + to) (next-small .1) (entered .here)
+
+          pub state-some : 0 < state
+          state-some = by (ℕ-discrete state 0)
+            where
+              by : Dec (state ≡ 0) → 0 < state
+              by (yes e) = absurd (entered .here (sym (mark .is) ∙ e))
+              by (no d) = omega (arith, nonzero state d)
+
+          pub step-done : (Z : List ℕ) → Put g Y Z (base + i) a 0 (state - 1)
+              → Step-paired g W Z base (n * m) len i s (product (standing g W first n) (standing g W second m)) a more
+          step-done Z p =
+              record {
+                grown =
+                    grown-then g base (n * m) (Step-notes g base (n * m) i a) W X Z len len more run-grown
+                    (grown-then g base (n * m) (Step-notes g base (n * m) i a) X Y Z len more more enter-grown put-grown);
+                step =
+                    record {
+                      inside = omega (arith, size, output-inside);
+                      next-below = omega (arith, p .here, state-some, mark .is, has .0);
+                      pair-is = ap (pairOf g Z base) (p .here) ∙ same ∙ ap (λ (j : ℕ). pairOf g Y base (j - 1)) (mark .is) ∙ has .1 ∙ pair-is;
+                      output-is =
+                          word-kept g (Entry (base + i) a 0) Y Z (p .kept) (base + i) a 1 (omega arith) (omega (arith, size-Y, output-inside)) (λ e l q. omega (arith, q .2))
+                          ∙ word-kept g (Spare g base (base + n * m) 0 2) X Y (entered .grown .kept) (base + i) a 1 (omega arith) output-inside (λ e l q. omega (arith, q .2))
+                          ∙ output-is;
+                    };
+              }
+            where
+              put-grown : Grown (Step-notes g base (n * m) i a) g Y Z base (n * m) more more
+              put-grown =
+                  grown-wider g base (n * m) (Step-notes g base (n * m) i a) (Entry (base + i) a 0) Y Z more more
+                  (grown-by g base (n * m) (Entry (base + i) a 0) Y Z more (room .deep) (entered .grown .pairs) (p .kept) (λ r e he q. omega (arith, q .1)))
+                  (λ r c e q. inl (q .0, q .1, omega arith))
+
+              same : pairOf g Z base (state - 1) ≡ pairOf g Y base (state - 1)
+              same = p .kept .same (base + (state - 1)) (g .tags) 0 (omega arith) (omega (arith, room .deep)) (λ q. omega (arith, q .1))
+
+              size-Y : at g Y (base + i) a 1 ≡ at g X (base + i) a 1
+              size-Y = entered .grown .kept .same (base + i) a 1 (omega arith) (omega (arith, room .deep)) (λ q. omega (arith, q .2))
+
+              size : at g Z (base + i) a 1 ≡ at g X (base + i) a 1
+              size = p .kept .same (base + i) a 1 (omega arith) (omega (arith, room .deep)) (λ q. omega (arith, q .2)) ∙ size-Y
+
+  module _ (i s : ℕ) (hi : i < n * m) (h : s < n * m) (X : List ℕ) (to : ℕ)
+      (ran : Ran g W X second m (s % m) (first + s / m) (g .tags) 7 (base + i) (g .tags) 7 [] to) where
     w : List ℕ
     w = standing g W first n .final (s / m)
 
@@ -189,7 +270,7 @@ module _ (g : Grid) (W : List ℕ) (first n second m base : ℕ) (ok : Composabl
     -- the second's rows stay
     second-on : Holds g X second (tableAt g W second m)
     second-on =
-        holds-kept g (Cell (base + s) (g .tags) 7) W X (ran .wrote .kept) second (tableAt g W second m) (ok .second-holds)
+        holds-kept g (Cell (base + i) (g .tags) 7) W X (ran .wrote .kept) second (tableAt g W second m) (ok .second-holds)
         (λ p b e hp hb i. omega (arith, i .0, ok .above)) (λ p e hp he i. omega (arith, i .0, ok .above))
 
     in-table : to < length (tableAt g W second m)
@@ -219,7 +300,7 @@ module _ (g : Grid) (W : List ℕ) (first n second m base : ℕ) (ok : Composabl
           inside = omega (arith, size, ok .second-holds .roomy .finals to in-table);
         }
 
-    pub last-room : 7 + at g X (base + s) (g .tags) 7 + at g X (second + to) (g .tags) 7 < g .depth
+    pub last-room : 7 + at g X (base + i) (g .tags) 7 + at g X (second + to) (g .tags) 7 < g .depth
     last-room =
         omega (
           arith,
@@ -230,13 +311,28 @@ module _ (g : Grid) (W : List ℕ) (first n second m base : ℕ) (ok : Composabl
           roomy-product .finals s (omega (arith, count-product)),
         )
 
-    pub final-done : (Y : List ℕ) → Written g X Y (base + s) (g .tags) 7 (word g X (base + s) (g .tags) 7 ++ word g X (second + to) (g .tags) 7)
-        → Written g W Y (base + s) (g .tags) 7 (product (standing g W first n) (standing g W second m) .final s)
-    final-done Y wrote = written-is g W Y (base + s) (g .tags) 7 _ _ both (written-more g W X (base + s) (g .tags) 7 Y _ _ (ran .wrote) wrote)
+    pub final-done : (Y : List ℕ) → Written g X Y (base + i) (g .tags) 7 (word g X (base + i) (g .tags) 7 ++ word g X (second + to) (g .tags) 7)
+        → Written g W Y (base + i) (g .tags) 7 (product (standing g W first n) (standing g W second m) .final s)
+    final-done Y wrote = written-is g W Y (base + i) (g .tags) 7 _ _ both (written-more g W X (base + i) (g .tags) 7 Y _ _ (ran .wrote) wrote)
 
-  pub one-row : (X : List ℕ) (s : ℕ) → s < n * m → Kept g W X (In-rows (base + s) (base + s + 1)) → Kept g W X (In-rows base (base + n * m))
-  one-row X s h kept =
-      kept-wider g (In-rows base (base + n * m)) (In-rows (base + s) (base + s + 1)) W X kept (λ r c e i. (omega (arith, i .0), omega (arith, i .1)))
+  -- a row and the notes of pairs are between the two
+  pub notes-inside : (X : List ℕ) (i : ℕ) → i < n * m → Kept g W X (Row-notes g base (n * m) i) → Kept g W X (In-rows base (base + n * m))
+  notes-inside X i h kept = kept-wider g (In-rows base (base + n * m)) (Row-notes g base (n * m) i) W X kept wider
+    where
+      wider : (r c e : ℕ) → Row-notes g base (n * m) i r c e → In-rows base (base + n * m) r c e
+      wider r c e (inl p) = (omega (arith, p .0), omega (arith, p .1))
+      wider r c e (inr p) = (p .0, p .1)
+
+  pub spare-inside : (X : List ℕ) → Kept g W X (Spare g base (base + n * m) 0 2) → Kept g W X (In-rows base (base + n * m))
+  spare-inside X kept = kept-wider g (In-rows base (base + n * m)) (Spare g base (base + n * m) 0 2) W X kept (λ r c e p. (p .0, p .1))
+
+  pub pairs-some : 0 < n * m
+  pairs-some =
+      omega (
+        arith,
+        sound-product (g .tags) (standing g W first n) (standing g W second m) (ok .first-sound) (ok .second-sound) .some,
+        count-product,
+      )
 
   -- writing between the two leaves both
   module _ (X : List ℕ) (kept : Kept g W X (In-rows base (base + n * m))) where
@@ -273,17 +369,66 @@ module _ (g : Grid) (W : List ℕ) (first n second m base : ℕ) (ok : Composabl
           above = ok .above;
         }
 
-  -- all pairs
-  pub composed : (X : List ℕ) → Filling g W X base (n * m) (product (standing g W first n) (standing g W second m)) (n * m)
-      → Composed g X base (n * m) (tableAt g W first n) (tableAt g W second m)
-  composed X f =
-      let S = product (standing g W first n) (standing g W second m) in
-      record {
-        table = compose (g .tags) (tableAt g W first n) (tableAt g W second m);
-        long = length-table (g .tags) S ∙ count-product;
-        few = omega (arith, count-product);
-        holds = holds-table g X base S (omega (arith, count-product, ok .above, ok .second-holds .room))
-            (sound-product (g .tags) (standing g W first n) (standing g W second m) (ok .first-sound) (ok .second-sound) .next-below) roomy-product
-            (λ q hq. f .states q (omega (arith, count-product)));
-        doing = λ d e f' h a b. doing-compose (g .tags) d e f' h (tableAt g W first n) (tableAt g W second m) a b;
-      }
+  -- a transducer of the reached pairs
+  module _ (X : List ℕ) (i len : ℕ) (done : len ≤ i) (m' : Searching g W X base (n * m) (product (standing g W first n) (standing g W second m)) i len) where
+    abbrev S : Shape
+    S = product (standing g W first n) (standing g W second m)
+
+    abbrev T : Shape
+    T = held g X base len
+
+    state : (q : ℕ) → q < len → State g X base len q (pairOf g X base q) S
+    state q h = m' .states q (omega arith)
+
+    low : (q : ℕ) → q < len → pairOf g X base q < S .count
+    low q h = omega (arith, m' .pairs .below q h, count-product)
+
+    covers : Covers (g .tags) S T (pairOf g X base)
+    covers =
+        record {
+          some = m' .pairs .some;
+          start = m' .pairs .start;
+          below = low;
+          inside = λ q a h ha. state q h .steps a ha .next-below;
+          nexts = λ q a h ha. state q h .steps a ha .pair-is;
+          outputs = λ q a h ha. state q h .steps a ha .output-is;
+          finals = λ q h. state q h .final-is;
+        }
+
+    S-sound : Sound (g .tags) S
+    S-sound = sound-product (g .tags) (standing g W first n) (standing g W second m) (ok .first-sound) (ok .second-sound)
+
+    T-sound : Sound (g .tags) T
+    T-sound = covers-sound (g .tags) S T (pairOf g X base) covers S-sound
+
+    roomy : Roomy g T
+    roomy =
+        record {
+          outputs = λ q a h ha. omega (arith, ap length (covers .outputs q a h ha), roomy-product .outputs (pairOf g X base q) a (low q h) ha);
+          finals = λ q h. omega (arith, ap length (covers .finals q h), roomy-product .finals (pairOf g X base q) (low q h));
+        }
+
+    pub composed : Composed g X base len (tableAt g W first n) (tableAt g W second m)
+    composed =
+        record {
+          table = table (g .tags) T;
+          long = length-table (g .tags) T;
+          few = omega (arith, m' .pairs .low, count-product);
+          holds =
+              holds-table g X base T (omega (arith, m' .pairs .low, ok .above, ok .second-holds .room)) (covers .inside) roomy
+              (λ q h. record { steps = λ a ha. record { next-is = refl; output-is = refl }; final-is = refl });
+          doing = λ d e f h a b.
+              doing-table (g .tags) T T-sound (d + e) (λ w. h (f w)) (covers-held (g .tags) S T (pairOf g X base) covers (d + e) (held-product d e f h a b))
+              (λ x hx. covers-puts (g .tags) S T (pairOf g X base) covers x hx 0 (m' .pairs .some) ∙ ap (λ (s : ℕ). puts S s x) (m' .pairs .start) ∙ does-product d e f h a b x hx);
+        }
+      where
+        held-product : (d e : ℕ) (f h : List ℕ → List ℕ) → Doing (g .tags) d f (tableAt g W first n) → Doing (g .tags) e h (tableAt g W second m) → Held (d + e) S
+        held-product d e f h a b s hs =
+            let c = doing-compose (g .tags) d e f h (tableAt g W first n) (tableAt g W second m) a b in
+            omega (arith, ap length (agree-table (g .tags) S .finals s hs), c .held s (omega (arith, length-table (g .tags) S)))
+
+        does-product : (d e : ℕ) (f h : List ℕ → List ℕ) → Doing (g .tags) d f (tableAt g W first n) → Doing (g .tags) e h (tableAt g W second m)
+            → (x : List ℕ) → Below (g .tags) x → puts S 0 x ≡ h (f x)
+        does-product d e f h a b x hx =
+            let c = doing-compose (g .tags) d e f h (tableAt g W first n) (tableAt g W second m) a b in
+            sym (puts-table (g .tags) S S-sound 0 (S-sound .some) x hx) ∙ c .does x hx

@@ -1,64 +1,103 @@
-use Rattle.compose.proofs.Pairs.{roomy-product, count-product, composable-kept, first-same, second-same, composed}
-use Rattle.workspace.specs.Holds.{standing, Filling}
-use Rattle.workspace.proofs.Holds.{filling-start, filling-next}
-use Rattle.transducers.specs.Compose.{product}
-use native.Mathlib.Omega.{arith}
-use mathlib.Core.Path.{_≡_, subst}
-use Prim.Native.Nat.{ℕ, _+_, _*_, _-_, _≤_}
+-- `compose::compose` meets its contract.
 use borrow.Author.Needs.{needs}
+use Prim.Native.Nat.{ℕ, _+_, _*_, _-_, _≤_, _<_}
+use native.Mathlib.Omega.{arith}
+use mathlib.Core.Path.{_≡_, sym, subst}
+use Rattle.workspace.specs.Cells.{In-rows}
+use Rattle.workspace.specs.Holds.{standing}
+use Rattle.workspace.proofs.Cells.{kept-then}
+use Rattle.transducers.specs.Compose.{product}
+use Rattle.compose.specs.Pairs.{Searching}
+use Rattle.compose.proofs.Pairs.{room, pairs-some, spare-inside, composable-kept, first-same, second-same, composed}
+use Rattle.compose.proofs.Reached.{searching-start, searching-next}
 use Rattle.compose.proofs.compose.Statement.{statement}
 use Rattle.compose.proofs.compose.Tie as tie
 use Rattle.compose.proofs.compose.Reads as reads
 use Rattle.compose.proofs.compose.Lts as lts
+use Rattle.compose.proofs.begin.Reads as begin-reads
 use Rattle.compose.proofs.pair_row.Reads as pair-row-reads
+use Rattle.workspace.proofs.get.Reads as get-reads
 
 abbrev Inv-loop : tie.InvT-loop
-Inv-loop work₀ g first n second m base count s₀ work s = (s ≤ n * m) × Filling g work₀ work base (n * m) (product (standing g work₀ first n) (standing g work₀ second m)) s
+Inv-loop work₀ g first n second m base len₀ i₀ work len i = Searching g work₀ work base (n * m) (product (standing g work₀ first n) (standing g work₀ second m)) i len
 
 abbrev μ-loop : tie.MeasureT-loop
-μ-loop work₀ g first n second m base count s₀ work s = n * m - s
+μ-loop work₀ g first n second m base len₀ i₀ work len i = n * m - i
 
--- src/lib.rt:130:17
-mul-count : tie.Need-mul-count Inv-loop μ-loop
-mul-count c = search needs
+-- src/lib.rt:234:26
+mul-begin : tie.Need-mul-begin Inv-loop μ-loop
+mul-begin c = let st = c .before .before in omega (arith, st .pre .above, st .pre .second-holds .room, st .pre .sized .rows-small)
 
--- src/lib.rt:132:5
+-- src/lib.rt:234:5
+begin-requires : tie.Need-begin-requires Inv-loop μ-loop
+begin-requires c κs =
+    let st = c .before .before in
+    let a = st .args in
+    (room (a .g) _ _ _ _ _ _ (st .pre), pairs-some (a .g) _ _ _ _ _ _ (st .pre))
+
+-- src/lib.rt:237:5
 loop-holds : tie.Need-loop-holds Inv-loop μ-loop
-loop-holds c = let st = c .before in let a = st .args in (
-  omega arith,
-  filling-start (a .g) _ _ _ (roomy-product (a .g) _ _ _ _ _ _ (st .pre)) (count-product (a .g) _ _ _ _ _ _ (st .pre)) (a .work .now),
-)
+loop-holds c = searching-start _ _ _ _ _ (c .before .before .begin .ensures .1)
 
--- src/lib.rt:133:9
+-- src/lib.rt:238:30
+add-get : tie.Need-add-get Inv-loop μ-loop
+add-get c = let st = c .before .before .before .before .before .before .before .before in omega (arith, c .before .before .loop .inv .pairs .low, st .pre .above, st .pre .second-holds .room, st .pre .sized .rows-small)
+
+-- src/lib.rt:238:13
+get-requires : tie.Need-get-requires Inv-loop μ-loop
+get-requires c κs =
+    let st = c .before .before .before .before .before .before .before .before in
+    let inv = c .before .before .loop .inv in
+    omega (arith, inv .pairs .low, inv .kept .long, c .before .before .before .before .before .begin .ensures .0 .long, st .pre .above, st .pre .second-holds .room, st .pre .room)
+
+-- src/lib.rt:239:9
 pair-row-requires : tie.Need-pair-row-requires Inv-loop μ-loop
-pair-row-requires c κs = let st = c .before .before .before .before in let a = st .args in (composable-kept (a .g) _ _ _ _ _ _ (st .pre) _ (c .before .before .loop .inv .1 .kept), omega arith)
+pair-row-requires c κs =
+    let st = c .before .before .before .before .before .before .before .before .before .before in
+    let a = st .args in
+    let u = c .before .before .before .before .before .before .before .begin .ensures in
+    let start = composable-kept (a .g) _ _ _ _ _ _ (st .pre) _ (spare-inside (a .g) _ _ _ _ _ _ (st .pre) _ (u .0)) in
+    let inv = c .before .before .before .before .loop .inv in
+    let s = c .before .get .ensures in
+    (composable-kept (a .g) _ _ _ _ _ _ start _ (inv .kept), (inv .pairs, (omega arith, omega (arith, s .is, inv .pairs .below (c .before .before .before .before .loop .i) (omega arith)))))
 
--- src/lib.rt:134:9
-add-s : tie.Need-add-s Inv-loop μ-loop
-add-s c = search needs
+-- src/lib.rt:240:9
+add-i : tie.Need-add-i Inv-loop μ-loop
+add-i c = search needs
 
--- src/lib.rt:132:5
+-- src/lib.rt:237:5
 loop-less : tie.Need-loop-less Inv-loop μ-loop
-loop-less c = search needs
+loop-less c =
+    let inv = c .before .before .before .before .before .before .before .loop .inv in
+    omega (arith, inv .pairs .low)
 
--- src/lib.rt:132:5
+-- src/lib.rt:237:5
 loop-again : tie.Need-loop-again Inv-loop μ-loop
-loop-again c = let st = c .before .before .before .before .before .before .before in let a = st .args in (
-  omega arith,
-  filling-next (a .g) _ _ _ (roomy-product (a .g) _ _ _ _ _ _ (st .pre)) (count-product (a .g) _ _ _ _ _ _ (st .pre)) _ _ _ _ (omega arith) (c .before .before .before .before .before .loop .inv .1)
-      (rw (first-same (a .g) _ _ _ _ _ _ (st .pre) _ (c .before .before .before .before .before .loop .inv .1 .kept), second-same (a .g) _ _ _ _ _ _ (st .pre) _ (c .before .before .before .before .before .loop .inv .1 .kept)) at (c .before .before .pair-row .ensures)),
-)
+loop-again c =
+    let st = c .before .before .before .before .before .before .before .before .before .before .before .before .before in
+    let a = st .args in
+    let u = c .before .before .before .before .before .before .before .before .before .before .begin .ensures in
+    let start = composable-kept (a .g) _ _ _ _ _ _ (st .pre) _ (spare-inside (a .g) _ _ _ _ _ _ (st .pre) _ (u .0)) in
+    let inv = c .before .before .before .before .before .before .before .loop .inv in
+    searching-next (a .g) _ _ _ _ _ _ _ _ _ _ (omega arith) (c .before .before .before .before .get .ensures .is) inv
+    (rw (first-same (a .g) _ _ _ _ _ _ start _ (inv .kept), second-same (a .g) _ _ _ _ _ _ start _ (inv .kept)) at (c .before .before .pair-row .ensures))
 
--- src/lib.rt:125:1
+-- src/lib.rt:221:1
 same-length : tie.Need-same-length Inv-loop μ-loop
-same-length c = c .before .loop .inv .1 .kept .long
+same-length c = omega (arith, c .before .loop .inv .kept .long, c .before .before .before .before .begin .ensures .0 .long)
 
--- src/lib.rt:125:1
+-- src/lib.rt:221:1
 returns : tie.Need-returns Inv-loop μ-loop
-returns c = let st = c .before .before .before in let a = st .args in let e : c .before .loop .s ≡ a .n * a .m = omega arith in (
-  composed (a .g) _ _ _ _ _ _ (st .pre) _ (subst (λ (i : ℕ). Filling (a .g) (a .work .now) (c .before .loop .work) (a .base) (a .n * a .m) (product (standing (a .g) (a .work .now) (a .first) (a .n)) (standing (a .g) (a .work .now) (a .second) (a .m))) i) e (c .before .loop .inv .1)),
-  c .before .loop .inv .1 .kept,
-)
+returns c =
+    let st = c .before .before .before .before .before .before .before in
+    let a = st .args in
+    let u = c .before .before .before .before .begin .ensures in
+    let start = composable-kept (a .g) _ _ _ _ _ _ (st .pre) _ (spare-inside (a .g) _ _ _ _ _ _ (st .pre) _ (u .0)) in
+    let inv = c .before .loop .inv in
+    let bk = spare-inside (a .g) _ _ _ _ _ _ (st .pre) _ (u .0) in (
+      rw (sym (first-same (a .g) _ _ _ _ _ _ (st .pre) _ bk), sym (second-same (a .g) _ _ _ _ _ _ (st .pre) _ bk)) (composed (a .g) _ _ _ _ _ _ start _ _ _ (omega arith) inv),
+      kept-then (a .g) (In-rows (a .base) (a .base + a .n * a .m)) _ _ _ bk (inv .kept),
+    )
 
 pub compose-spec : {M : Type 1} → statement M
 compose-spec =
@@ -66,10 +105,13 @@ compose-spec =
     (tie.spec
     Inv-loop
     μ-loop
-    mul-count
+    mul-begin
+    begin-requires
     loop-holds
+    add-get
+    get-requires
     pair-row-requires
-    add-s
+    add-i
     loop-less
     loop-again
     same-length

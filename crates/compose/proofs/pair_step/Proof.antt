@@ -1,65 +1,123 @@
-use Rattle.compose.proofs.Pairs.{some, pair-first, pair-second, runs-output, next-small, step-done}
+-- `compose::pair_step` meets its contract.
+use Prim.Native.Nat.{ℕ, _+_, _*_, _-_, _<_}
 use native.Mathlib.Omega.{arith}
+use Rattle.compose.proofs.Pairs.{some, pair-first, pair-second, runs-output, next-small, run-pairs, run-room, state-some, step-done}
 use borrow.Author.Needs.{needs}
 use Rattle.compose.proofs.pair_step.Statement.{statement}
 use Rattle.compose.proofs.pair_step.Tie as tie
 use Rattle.compose.proofs.pair_step.Reads as reads
 use Rattle.compose.proofs.pair_step.Lts as lts
+use Rattle.compose.proofs.enter.Reads as enter-reads
 use Rattle.compose.proofs.run_into.Reads as run-into-reads
 use Rattle.workspace.proofs.get.Reads as get-reads
 use Rattle.workspace.proofs.put.Reads as put-reads
 
--- src/lib.rt:86:13
+-- src/lib.rt:128:13
 div-q : tie.Need-div-q
 div-q c = let st = c .before in omega (arith, some (st .args .g) _ _ _ _ _ _ (st .pre .0))
 
--- src/lib.rt:87:43
+-- src/lib.rt:129:42
 rem-run-into : tie.Need-rem-run-into
 rem-run-into c = let st = c .before .before in omega (arith, some (st .args .g) _ _ _ _ _ _ (st .pre .0))
 
--- src/lib.rt:87:50
+-- src/lib.rt:129:49
 add-run-into : tie.Need-add-run-into
-add-run-into c = let st = c .before .before in omega (arith, pair-first (st .args .g) _ _ _ _ _ _ (st .pre .0) (st .args .s) (st .pre .1 .0))
+add-run-into c = let st = c .before .before in omega (arith, pair-first (st .args .g) _ _ _ _ _ _ (st .pre .0) (st .args .s) (st .pre .1 .1 .1))
 
--- src/lib.rt:87:67
+-- src/lib.rt:129:66
 add-run-into-2 : tie.Need-add-run-into-2
 add-run-into-2 c = search needs
 
--- src/lib.rt:87:9
+-- src/lib.rt:129:9
 run-into-requires : tie.Need-run-into-requires
-run-into-requires c κs = let st = c .before .before in runs-output (st .args .g) _ _ _ _ _ _ (st .pre .0) (st .args .s) (st .args .a) (st .pre .1 .0) (st .pre .1 .1)
+run-into-requires c κs =
+    let st = c .before .before in
+    let a = st .args in
+    let hi : a .i < a .n * a .m = omega (arith, st .pre .1 .0 .low, st .pre .1 .1 .0) in
+    runs-output (a .g) _ _ _ _ _ _ (st .pre .0) (a .i) (a .s) (a .a) hi (st .pre .1 .1 .1) (st .pre .1 .1 .2)
 
--- src/lib.rt:88:29
+-- src/lib.rt:130:29
 add-get : tie.Need-add-get
-add-get c = let st = c .before .before .before .before .before .before in omega (arith, pair-first (st .args .g) _ _ _ _ _ _ (st .pre .0) (st .args .s) (st .pre .1 .0))
+add-get c = let st = c .before .before .before .before .before .before in omega (arith, pair-first (st .args .g) _ _ _ _ _ _ (st .pre .0) (st .args .s) (st .pre .1 .1 .1))
 
--- src/lib.rt:88:9
+-- src/lib.rt:130:9
 get-requires : tie.Need-get-requires
-get-requires c κs = let st = c .before .before .before .before .before .before in let run = runs-output (st .args .g) _ _ _ _ _ _ (st .pre .0) (st .args .s) (st .args .a) (st .pre .1 .0) (st .pre .1 .1) in omega (arith, run .from .row, run .from .cell, run .from .inside, c .before .before .before .run-into .ensures .wrote .kept .long)
+get-requires c κs =
+    let st = c .before .before .before .before .before .before in
+    let a = st .args in
+    let hi : a .i < a .n * a .m = omega (arith, st .pre .1 .0 .low, st .pre .1 .1 .0) in
+    let run = runs-output (a .g) _ _ _ _ _ _ (st .pre .0) (a .i) (a .s) (a .a) hi (st .pre .1 .1 .1) (st .pre .1 .1 .2) in
+    omega (arith, run .from .row, run .from .cell, run .from .inside, c .before .before .before .run-into .ensures .wrote .kept .long)
 
--- src/lib.rt:89:18
+-- src/lib.rt:131:16
+mul-pair : tie.Need-mul-pair
+mul-pair c =
+    let st = c .before .before .before .before .before .before .before in
+    let a = st .args in
+    let hi : a .i < a .n * a .m = omega (arith, st .pre .1 .0 .low, st .pre .1 .1 .0) in
+    omega (arith, next-small (a .g) _ _ _ _ _ _ (st .pre .0) (a .i) (a .s) (a .a) hi (st .pre .1 .1 .1) (st .pre .1 .1 .2) _ _ (c .before .before .before .before .run-into .ensures) _ (c .get .ensures))
+
+-- src/lib.rt:131:16
+add-pair : tie.Need-add-pair
+add-pair c =
+    let st = c .before .before .before .before .before .before .before in
+    let a = st .args in
+    let hi : a .i < a .n * a .m = omega (arith, st .pre .1 .0 .low, st .pre .1 .1 .0) in
+    omega (arith, next-small (a .g) _ _ _ _ _ _ (st .pre .0) (a .i) (a .s) (a .a) hi (st .pre .1 .1 .1) (st .pre .1 .1 .2) _ _ (c .before .before .before .before .run-into .ensures) _ (c .get .ensures))
+
+-- src/lib.rt:132:35
+mul-enter : tie.Need-mul-enter
+mul-enter c = search needs
+
+-- src/lib.rt:132:9
+enter-requires : tie.Need-enter-requires
+enter-requires c κs =
+    let st = c .before .before .before .before .before .before .before .before in
+    let a = st .args in
+    let hi : a .i < a .n * a .m = omega (arith, st .pre .1 .0 .low, st .pre .1 .1 .0) in
+    let run = c .before .before .before .before .before .run-into .ensures in
+    let got = c .before .get .ensures in
+    (run-room (a .g) _ _ _ _ _ _ (st .pre .0) (a .i) (a .s) (a .a) hi (st .pre .1 .1 .1) (st .pre .1 .1 .2) _ _ run _ got _ (st .pre .1 .0), (run-pairs (a .g) _ _ _ _ _ _ (st .pre .0) (a .i) (a .s) (a .a) hi (st .pre .1 .1 .1) (st .pre .1 .1 .2) _ _ run _ got _ (st .pre .1 .0), next-small (a .g) _ _ _ _ _ _ (st .pre .0) (a .i) (a .s) (a .a) hi (st .pre .1 .1 .1) (st .pre .1 .1 .2) _ _ run _ got .1))
+
+-- src/lib.rt:133:30
+add-get-2 : tie.Need-add-get-2
+add-get-2 c =
+    let st = c .before .before .before .before .before .before .before .before .before .before .before .before in
+    let a = st .args in
+    let hi : a .i < a .n * a .m = omega (arith, st .pre .1 .0 .low, st .pre .1 .1 .0) in
+    omega (arith, next-small (a .g) _ _ _ _ _ _ (st .pre .0) (a .i) (a .s) (a .a) hi (st .pre .1 .1 .1) (st .pre .1 .1 .2) _ _ (c .before .before .before .before .before .before .before .before .before .run-into .ensures) _ (c .before .before .before .before .before .get .ensures), st .pre .0 .above, st .pre .0 .second-holds .room)
+
+-- src/lib.rt:133:9
+get-requires-2 : tie.Need-get-requires-2
+get-requires-2 c κs =
+    let st = c .before .before .before .before .before .before .before .before .before .before .before .before in
+    let a = st .args in
+    let hi : a .i < a .n * a .m = omega (arith, st .pre .1 .0 .low, st .pre .1 .1 .0) in
+    omega (arith, next-small (a .g) _ _ _ _ _ _ (st .pre .0) (a .i) (a .s) (a .a) hi (st .pre .1 .1 .1) (st .pre .1 .1 .2) _ _ (c .before .before .before .before .before .before .before .before .before .run-into .ensures) _ (c .before .before .before .before .before .get .ensures), st .pre .0 .above, st .pre .0 .second-holds .room, st .pre .0 .room, c .before .before .before .before .before .before .before .before .before .run-into .ensures .wrote .kept .long, c .before .before .before .enter .ensures .grown .kept .long)
+
+-- src/lib.rt:134:18
 add-put : tie.Need-add-put
 add-put c = search needs
 
--- src/lib.rt:89:34
-mul-put : tie.Need-mul-put
-mul-put c = let st = c .before .before .before .before .before .before .before .before in omega (arith, next-small (st .args .g) _ _ _ _ _ _ (st .pre .0) (st .args .s) (st .args .a) (st .pre .1 .0) (st .pre .1 .1) _ _ (c .before .before .before .before .before .run-into .ensures) _ (c .before .get .ensures))
+-- src/lib.rt:134:34
+sub-put : tie.Need-sub-put
+sub-put c = search needs
 
--- src/lib.rt:89:34
-add-put-2 : tie.Need-add-put-2
-add-put-2 c = let st = c .before .before .before .before .before .before .before .before in omega (arith, next-small (st .args .g) _ _ _ _ _ _ (st .pre .0) (st .args .s) (st .args .a) (st .pre .1 .0) (st .pre .1 .1) _ _ (c .before .before .before .before .before .run-into .ensures) _ (c .before .get .ensures))
-
--- src/lib.rt:89:5
+-- src/lib.rt:134:5
 put-requires : tie.Need-put-requires
-put-requires c κs = let st = c .before .before .before .before .before .before .before .before in let run = runs-output (st .args .g) _ _ _ _ _ _ (st .pre .0) (st .args .s) (st .args .a) (st .pre .1 .0) (st .pre .1 .1) in omega (arith, run .row, run .from .inside, c .before .before .before .before .before .run-into .ensures .wrote .kept .long, next-small (st .args .g) _ _ _ _ _ _ (st .pre .0) (st .args .s) (st .args .a) (st .pre .1 .0) (st .pre .1 .1) _ _ (c .before .before .before .before .before .run-into .ensures) _ (c .before .get .ensures))
+put-requires c κs = search needs
 
--- src/lib.rt:71:1
+-- src/lib.rt:110:1
 same-length : tie.Need-same-length
 same-length c = search needs
 
--- src/lib.rt:71:1
+-- src/lib.rt:110:1
 returns : tie.Need-returns
-returns c = let st = c .before .before .before .before .before .before .before .before .before .before .before in step-done (st .args .g) _ _ _ _ _ _ (st .pre .0) (st .args .s) (st .args .a) (st .pre .1 .0) (st .pre .1 .1) _ _ (c .before .before .before .before .before .before .before .before .run-into .ensures) _ (c .before .before .before .before .get .ensures) _ (c .before .before .put .ensures)
+returns c =
+    let st = c .before .before .before .before .before .before .before .before .before .before .before .before .before .before .before .before .before in
+    let a = st .args in
+    let hi : a .i < a .n * a .m = omega (arith, st .pre .1 .0 .low, st .pre .1 .1 .0) in
+    step-done (a .g) _ _ _ _ _ _ (st .pre .0) (a .i) (a .s) (a .a) hi (st .pre .1 .1 .1) (st .pre .1 .1 .2) _ _ (c .before .before .before .before .before .before .before .before .before .before .before .before .before .before .run-into .ensures) _ (c .before .before .before .before .before .before .before .before .before .before .get .ensures) _ (st .pre .1 .0) _ _ (c .before .before .before .before .before .before .before .before .enter .ensures) _ (c .before .before .before .before .get2 .ensures) _ (c .before .before .put .ensures)
 
 pub pair-step-spec : {M : Type 1} → statement M
 pair-step-spec =
@@ -72,9 +130,14 @@ pair-step-spec =
     run-into-requires
     add-get
     get-requires
+    mul-pair
+    add-pair
+    mul-enter
+    enter-requires
+    add-get-2
+    get-requires-2
     add-put
-    mul-put
-    add-put-2
+    sub-put
     put-requires
     same-length
     returns)

@@ -1,0 +1,34 @@
+-- `compose::begin` meets its contract.
+use Rattle.compose.proofs.Notes.{begun}
+use borrow.Author.Needs.{needs}
+use Rattle.compose.proofs.begin.Statement.{statement}
+use Rattle.compose.proofs.begin.Tie as tie
+use Rattle.compose.proofs.begin.Reads as reads
+use Rattle.compose.proofs.begin.Lts as lts
+use Rattle.compose.proofs.unmark.Reads as unmark-reads
+use Rattle.workspace.proofs.put.Reads as put-reads
+
+-- src/lib.rt:88:5
+unmark-requires : tie.Need-unmark-requires
+unmark-requires c κs = search needs
+
+-- src/lib.rt:89:5
+put-requires : tie.Need-put-requires
+put-requires c κs = search needs
+
+-- src/lib.rt:90:5
+put-requires-2 : tie.Need-put-requires-2
+put-requires-2 c κs = search needs
+
+-- src/lib.rt:83:1
+same-length : tie.Need-same-length
+same-length c = search needs
+
+-- src/lib.rt:83:1
+returns : tie.Need-returns
+returns c =
+    let st = c .before .before .before .before .before .before .before .before .before .before .before .before .before in
+    begun (st .args .g) _ _ _ _ _ _ (st .pre .1) (st .pre .0 .deep) (c .before .before .before .before .before .before .before .before .before .before .unmark .ensures) (c .before .before .before .before .before .before .put .ensures) (c .before .before .put2 .ensures)
+
+pub begin-spec : {M : Type 1} → statement M
+begin-spec = tie.close (tie.spec unmark-requires put-requires put-requires-2 same-length returns)
