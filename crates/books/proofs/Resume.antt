@@ -1,7 +1,7 @@
 -- Answers that resume the reading.
 use Prim.Native.Nat.{ℕ, _+_, _≤_, _<_}
 use native.Mathlib.Omega.{arith}
-use mathlib.Core.Path.{_≡_, refl, subst}
+use mathlib.Core.Path.{_≡_, refl, _∙_, subst}
 use mathlib.Core.Bool.{Bool, true, false}
 use borrow.Author.Tests.{ne-eqb}
 use lib.Dec.{eqb}
@@ -14,9 +14,9 @@ use Rattle.answers.specs.declared.Refusal.{Refusal}
 use Rattle.answers.specs.declared.Refusal.the-variants.{AtByte, AtRule, Bare}
 use Rattle.cascades.specs.Rule.{Cascade}
 use Rattle.books.specs.Kept.{Kept, Shaped, rulesDown}
-use Rattle.books.specs.Read.{read, width}
+use Rattle.books.specs.Read.{read}
 use Rattle.books.specs.Answer.{sizes, bookOutcome, cascadeOutcome}
-use Rattle.books.specs.Resume.{Resumes, Whole, readCommands}
+use Rattle.books.specs.Resume.{Resumes, Reads, Whole, readCommands}
 use Rattle.books.specs.declared.BookAnswer.{BookAnswer}
 use Rattle.books.specs.declared.BookAnswer.the-variants.{Book, Refused}
 use Rattle.books.proofs.Kept.{down-length}
@@ -37,14 +37,13 @@ module _ (s : List ℕ) (from : Outcome Cascade) (next : ℕ) (a : Kept) (h : Sh
   resumes-at next' r e f = subst (λ (n : ℕ). Resumes s from n a r) e f
 
 -- a refusal that resumes the reading is its outcome
-pub refused-whole : (s : List ℕ) (from : Outcome Cascade) (next : ℕ) (a : Kept) (r : BookAnswer) (x : Refusal) → r ≡ Refused x → Resumes s from next a r → from ≡ read s → Whole s a r
-refused-whole s from next a r x e f w = record { outcome = cc (f .goes-on); shaped = f .shaped }
+pub refused-ends : (s : List ℕ) (from whole : Outcome Cascade) (next : ℕ) (a : Kept) (r : BookAnswer) (x : Refusal) → r ≡ Refused x → Resumes s from next a r → from ≡ whole
+    → Reads whole a r
+refused-ends s from whole next a r x e f w = record { outcome = cc (f .goes-on); shaped = f .shaped }
 
-pub width-tag : (at b : ℕ) → b ≡ 0x22 → at + 1 + 1 ≡ at + width b
-width-tag at b e = let w : width b ≡ 2 = cc in omega arith
-
-pub width-rule : (at b : ℕ) → (b ≡ 0x22 → ⊥) → at + 1 + 1 + 1 ≡ at + width b
-width-rule at b e = let w : width b ≡ 3 = cc (ne-eqb b 0x22 e) in omega arith
+-- the reading of all the bytes has ended
+pub ends-whole : (s : List ℕ) (from : Outcome Cascade) (a : Kept) (r : BookAnswer) → from ≡ read s → Reads from a r → Whole s a r
+ends-whole s from a r e h = record { outcome = h .outcome ∙ e; shaped = h .shaped }
 
 -- a book so far goes on at the next command
 pub book-goes-on : (s : List ℕ) (from whole : Outcome Cascade) (next next' : ℕ) (a : Kept) (r : BookAnswer) (k m : ℕ) → Resumes s from next a r
@@ -52,13 +51,6 @@ pub book-goes-on : (s : List ℕ) (from whole : Outcome Cascade) (next next' : �
 book-goes-on s from whole next next' a r k m f e w n =
     let i = f .inside k m e in
     (i .0, omega (arith, i .1), f .shaped, cc (f .goes-on))
-
-pub width-some : (b : ℕ) → 0 < width b
-width-some b = some (eqb b 0x22)
-  where
-    some : (t : Bool) → 0 < elim t [ true ↦ 2 | false ↦ 3 ]
-    some true = omega arith
-    some false = omega arith
 
 -- K and the number of rules of what has been read
 pub sizes-read : (r : BookAnswer) (a : Kept) → bookOutcome r ≡ sizes (cascadeOutcome r a)

@@ -76,10 +76,6 @@ opened p t = record { pattern = []; place = p; tag = t }
 abbrev pub longer : Rule → ℕ → Rule
 longer r a = record { pattern = r .pattern ++ (a ∷ []); place = r .place; tag = r .tag }
 
--- how many bytes 21 or 22 takes with its operands
-abbrev pub width : ℕ → ℕ
-width b = elim (eqb b 0x22) [ true ↦ 2 | false ↦ 3 ]
-
 -- K outside 2 to 48 is 2; a byte after 00 is 1
 abbrev pub step : Stage → ℕ → Next
 step opening b = elim (eqb b 0x20) [ true ↦ go size | false ↦ refuse 1 ]

@@ -28,7 +28,12 @@ pub record Resumes (s : List ℕ) (from : Outcome Cascade) (next : ℕ) (a : Kep
   pub inside : (k m : ℕ) → answer ≡ Book k m → (m ≤ most-rules) × (next ≤ length s)
   pub shaped : Shaped a
 
--- the bytes s have been read: the outcome, with the rules in the arrays
+-- a reading has ended: its outcome, with the rules in the arrays
+pub record Reads (from : Outcome Cascade) (a : Kept) (answer : BookAnswer) : Type 0 where
+  pub outcome : cascadeOutcome answer a ≡ from
+  pub shaped : Shaped a
+
+-- the bytes s have been read
 pub record Whole (s : List ℕ) (a : Kept) (answer : BookAnswer) : Type 0 where
   pub outcome : cascadeOutcome answer a ≡ read s
   pub shaped : Shaped a

@@ -8,10 +8,10 @@ ghost use mathlib.Core.List.{[]};
 ghost use lib.ListN.{length, getD};
 ghost use Rattle.answers.specs.declared.Refusal.the-variants.{AtByte};
 ghost use Rattle.limits.specs.Limits.{most-rules};
-ghost use Rattle.books.specs.Read.{read, closing, width};
+ghost use Rattle.books.specs.Read.{read, closing};
 ghost use Rattle.books.specs.Kept.{Kept, arrays, Shaped, rulesDown};
 ghost use Rattle.books.specs.Answer.{sizes, bookOutcome, cascadeOutcome};
-ghost use Rattle.books.specs.Resume.{Resumes, Whole, readCommands};
+ghost use Rattle.books.specs.Resume.{Resumes, Reads, Whole, readCommands};
 
 pub enum BookAnswer {
     Book { tags: u8, rules: usize },
@@ -189,33 +189,66 @@ fn add_tag(
     BookAnswer::Book { tags: k, rules: m }
 }
 
-fn width_of(command: u8) -> usize
-    ensures { λ r. ⌜ r ≡ width command ⌝ }
-{
-    if command == 0x22 { 2 } else { 3 }
-}
-
-// The command at `at`, which is not 00.
-fn read_command(
+// The command at `at`, which is neither 00 nor 22.
+fn read_rule(
     s: &[u8],
     at: usize,
     k: u8,
     m: usize,
-    rows: &mut [[u8; PATTERN]; RULES],
+    rows: &[[u8; PATTERN]; RULES],
     lengths: &mut [usize; RULES],
     places: &mut [u8; RULES],
     tags: &mut [u8; RULES],
 ) -> BookAnswer
     requires { ⌜ Shaped (arrays rows lengths places tags) ⌝ }
-    requires { ⌜ (m ≤ most-rules) × (at < length (now s)) × (getD (now s) at 0 ≡ 0 → ⊥) ⌝ }
-    ensures { λ r. ⌜ Resumes (now (s .entry)) (readCommands (now (s .entry)) k m (arrays (rows .entry) (lengths .entry) (places .entry) (tags .entry)) at) (at + width (getD (now (s .entry)) at 0)) (arrays (rows .exit) (lengths .exit) (places .exit) (tags .exit)) r ⌝ }
+    requires { ⌜ (m ≤ most-rules) × (at < length (now s)) × (getD (now s) at 0 ≡ 0 → ⊥) × (getD (now s) at 0 ≡ 0x22 → ⊥) ⌝ }
+    ensures { λ r. ⌜ Resumes (now (s .entry)) (readCommands (now (s .entry)) k m (arrays (rows .entry) (lengths .entry) (places .entry) (tags .entry)) at) (at + 1 + 1 + 1) (arrays (rows .entry) (lengths .exit) (places .exit) (tags .exit)) r ⌝ }
 {
-    let command = s[at];
-    if command == 0x22 {
-        return add_tag(s, at, k, m, rows, lengths, places, tags);
-    }
-    if command == 0x21 {
+    if s[at] == 0x21 {
         return open_rule(s, at, k, m, rows, lengths, places, tags);
+    }
+    refused(1, at)
+}
+
+// The commands behind 20 and K.
+fn read_commands(
+    s: &[u8],
+    k0: u8,
+    m0: usize,
+    rows: &mut [[u8; PATTERN]; RULES],
+    lengths: &mut [usize; RULES],
+    places: &mut [u8; RULES],
+    new: &mut [u8; RULES],
+) -> BookAnswer
+    requires { ⌜ Shaped (arrays rows lengths places new) ⌝ }
+    requires { ⌜ (m0 ≤ most-rules) × (2 ≤ length (now s)) ⌝ }
+    ensures { λ r. ⌜ Reads (readCommands (now (s .entry)) k0 m0 (arrays (rows .entry) (lengths .entry) (places .entry) (new .entry)) 2) (arrays (rows .exit) (lengths .exit) (places .exit) (new .exit)) r ⌝ }
+{
+    let mut k = k0;
+    let mut m = m0;
+    let mut at = 2;
+    while at < s.len() {
+        let command = s[at];
+        if command == 0x22 {
+            let got = add_tag(s, at, k, m, rows, lengths, places, new);
+            let BookAnswer::Book { tags, rules } = got else {
+                return got;
+            };
+            k = tags;
+            m = rules;
+            at += 2;
+            continue;
+        }
+        if command == 0 {
+            return end_book(s, at, k, m, rows, lengths, places, new);
+        }
+        let got = read_rule(s, at, k, m, rows, lengths, places, new);
+        let BookAnswer::Book { tags, rules } = got else {
+            return got;
+        };
+        k = tags;
+        m = rules;
+        at += 3;
     }
     refused(1, at)
 }
@@ -226,40 +259,16 @@ pub fn read_into(
     rows: &mut [[u8; PATTERN]; RULES],
     lengths: &mut [usize; RULES],
     places: &mut [u8; RULES],
-    tags: &mut [u8; RULES],
+    new: &mut [u8; RULES],
 ) -> BookAnswer
-    requires { ⌜ Shaped (arrays rows lengths places tags) ⌝ }
-    ensures { λ r. ⌜ Whole (now (s .entry)) (arrays (rows .exit) (lengths .exit) (places .exit) (tags .exit)) r ⌝ }
+    requires { ⌜ Shaped (arrays rows lengths places new) ⌝ }
+    ensures { λ r. ⌜ Whole (now (s .entry)) (arrays (rows .exit) (lengths .exit) (places .exit) (new .exit)) r ⌝ }
 {
     let opened = open_book(s);
-    let BookAnswer::Book {
-        tags: tags0,
-        rules: rules0,
-    } = opened
-    else {
+    let BookAnswer::Book { tags, rules } = opened else {
         return opened;
     };
-    let mut k = tags0;
-    let mut m = rules0;
-    let mut at = 2;
-    while at < s.len() {
-        let command = s[at];
-        if command == 0 {
-            return end_book(s, at, k, m, rows, lengths, places, tags);
-        }
-        let got = read_command(s, at, k, m, rows, lengths, places, tags);
-        let BookAnswer::Book {
-            tags: tags1,
-            rules: rules1,
-        } = got
-        else {
-            return got;
-        };
-        k = tags1;
-        m = rules1;
-        at += width_of(command);
-    }
-    refused(1, at)
+    read_commands(s, tags, rules, rows, lengths, places, new)
 }
 
 // K and the number of rules, or the refusal with its byte.

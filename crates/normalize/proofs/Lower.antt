@@ -10,7 +10,7 @@ use lib.ListN.{length, getD, take, drop}
 use lib.Seq.{length-take-le, take-length}
 use Rattle.words.specs.Front.{Prefix, meet}
 use Rattle.words.proofs.Word.{below-suc}
-use Rattle.words.proofs.Front.{begins-trans, begins-length, begins-whole, meet-left, meet-right}
+use Rattle.words.proofs.Front.{begins-nil, begins-trans, begins-length, begins-whole, meet-left, meet-right}
 use Rattle.transducers.specs.Transducer.{Shape, puts}
 use Rattle.transducers.specs.Table.{Table, shape}
 use Rattle.transducers.specs.Rounds.{total}
@@ -81,6 +81,15 @@ module _ (g : Grid) (W : List ℕ) (base n : ℕ) (ok : Fronted g W base n) wher
 
   pub lowered-none : Lowered g W W base n
   lowered-none = record { kept = kept-none g (Spare g base (base + n) 0 1) W; less = λ q h. omega arith; above = λ a. a }
+
+  -- an empty front rests
+  pub turn-empty : (q own : ℕ) → own ≡ size g W base q → own ≡ 0 → Turn g W W base n ((a : ℕ) → a < g .tags → Rests g W base n q a) false
+  turn-empty q own is none =
+      record {
+        lowered = lowered-none;
+        falls = λ e. let z : _≡_ {A = ℕ} 0 1 = cc in absurd (omega arith);
+        rests = λ e. (refl, λ a ha. subst (λ (i : ℕ). Prefix (take i (standing g W base n .final q)) (standing g W base n .output q a ++ frontAt g W base n (standing g W base n .next q a))) (sym none ∙ is) (begins-nil _));
+      }
 
   -- one step of one state
   module _ (q a own j : ℕ) (h : q < n) (ha : a < g .tags) (is-own : own ≡ size g W base q)

@@ -74,7 +74,7 @@ fn either(a: bool, b: bool) -> bool
     b
 }
 
-fn lower_state(work: &mut [u16], g: Grid, base: usize, n: usize, q: usize) -> bool
+fn lower_steps(work: &mut [u16], g: Grid, base: usize, n: usize, q: usize) -> bool
     requires { ⌜ Fronted g (now work) base n ⌝ }
     requires { ⌜ q < n ⌝ }
     ensures { λ fell. ⌜ Turn g (now (work .entry)) (now (work .exit)) base n ((a : ℕ) → a < g .tags → Rests g (now (work .entry)) base n q a) fell ⌝ }
@@ -87,6 +87,18 @@ fn lower_state(work: &mut [u16], g: Grid, base: usize, n: usize, q: usize) -> bo
         a += 1;
     }
     fell
+}
+
+// The front of q, if there is one, is lowered to what it has in common with every step.
+fn lower_state(work: &mut [u16], g: Grid, base: usize, n: usize, q: usize) -> bool
+    requires { ⌜ Fronted g (now work) base n ⌝ }
+    requires { ⌜ q < n ⌝ }
+    ensures { λ fell. ⌜ Turn g (now (work .entry)) (now (work .exit)) base n ((a : ℕ) → a < g .tags → Rests g (now (work .entry)) base n q a) fell ⌝ }
+{
+    if get(work, g, base + q, g.tags, 0) == 0 {
+        return false;
+    }
+    lower_steps(work, g, base, n, q)
 }
 
 fn lower_all(work: &mut [u16], g: Grid, base: usize, n: usize) -> bool

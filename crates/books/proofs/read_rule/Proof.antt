@@ -1,0 +1,45 @@
+-- `books::read_rule` meets its contract.
+use Prim.Native.Nat.{_+_}
+use lib.ListN.{getD}
+use Rattle.books.specs.Kept.{kept}
+use Rattle.books.specs.Resume.{readCommands}
+use Rattle.books.proofs.Commands.{command-unknown}
+use Rattle.books.proofs.Resume.{resumes-refused}
+use borrow.Author.Needs.{needs}
+use Rattle.books.proofs.read_rule.Statement.{statement}
+use Rattle.books.proofs.read_rule.Tie as tie
+use Rattle.books.proofs.read_rule.Reads as reads
+use Rattle.books.proofs.read_rule.Lts as lts
+use Rattle.books.proofs.open_rule.Reads as open-rule-reads
+use Rattle.books.proofs.refused.Reads as refused-reads
+
+-- src/lib.rt:207:8
+shared-slice-read-if1 : tie.Need-shared-slice-read-if1
+shared-slice-read-if1 c = search needs
+
+-- src/lib.rt:208:9
+open-rule-requires : tie.Need-open-rule-requires
+open-rule-requires c κs = search needs
+
+-- src/lib.rt:208:9
+returns : tie.Need-returns
+returns c = search needs
+
+-- src/lib.rt:210:5
+refused-requires : tie.Need-refused-requires
+refused-requires c κs = search needs
+
+-- src/lib.rt:193:1
+returns-2 : tie.Need-returns-2
+returns-2 c =
+    let st = c .before .before .before .before in
+    let s = st .args .s .now in
+    let a = kept (st .args .rows .now) (st .args .lengths .now) (st .args .places .now) (st .args .tags .now) in
+    let from = readCommands s (st .args .k) (st .args .m) a (st .args .at) in
+    resumes-refused s from (st .args .at + 1 + 1 + 1) a (st .pre .0) (c .refused .result) 1 (st .args .at) (c .refused .ensures)
+    (command-unknown s (st .args .k) (st .args .m) a (st .args .at) (st .pre .1 .1) (st .pre .1 .2) (search needs) (st .pre .1 .3))
+
+pub read-rule-spec : {M : Type 1} → statement M
+read-rule-spec =
+    tie.close
+    (tie.spec shared-slice-read-if1 open-rule-requires returns refused-requires returns-2)
