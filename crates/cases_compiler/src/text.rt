@@ -1,0 +1,63 @@
+// What is written to standard output.
+use answers::Refusal;
+use libc::STDOUT_FILENO;
+ghost use Prim.Native.Nat.{_≤_, _<_};
+
+pub fn put(bytes: &[u8]) {
+    io::write_all(STDOUT_FILENO, bytes);
+}
+
+pub fn put_number(n: usize) {
+    io::print_decimal(STDOUT_FILENO, n as u64);
+}
+
+pub fn put_refusal(refusal: Refusal) {
+    put(b"refused ");
+    match refusal {
+        Refusal::AtByte { number, byte } => {
+            put_number(number as usize);
+            put(b" at byte ");
+            put_number(byte);
+        }
+        Refusal::AtRule { number, rule } => {
+            put_number(number as usize);
+            put(b" at rule ");
+            put_number(rule);
+        }
+        Refusal::Bare { number } => put_number(number as usize),
+    }
+}
+
+fn wide(x: u8) -> usize
+    ensures { λ r. ⌜ r < 256 ⌝ }
+{
+    x as usize
+}
+
+// The S of the table in the first n bytes.
+pub fn put_size(out: &[u8], n: usize) {
+    if 4 <= out.len() {
+        put(b"states ");
+        put_number(wide(out[2]) * 256 + wide(out[3]));
+        put(b", bytes ");
+        put_number(n);
+    }
+}
+
+// What is added to a count.
+pub fn one(counts: bool) -> usize
+    ensures { λ r. ⌜ r ≤ 1 ⌝ }
+{
+    if counts { 1 } else { 0 }
+}
+
+// How many bytes are not the 7 that they were.
+pub fn count_other(bytes: &[u8]) -> usize {
+    let mut other = 0;
+    let mut i = 0;
+    while i < bytes.len() {
+        other += one(bytes[i] != 7);
+        i += 1;
+    }
+    other
+}
