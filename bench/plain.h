@@ -1,0 +1,15 @@
+/* The three calls as one would write them by hand in C, unproved: the speed to compare with. */
+#ifndef PLAIN_H
+#define PLAIN_H
+
+#include <stddef.h>
+#include <stdint.h>
+
+uint64_t plain_compile(const uint8_t *book, size_t book_len, uint64_t ceiling, uint16_t *work, size_t work_len, uint8_t *out,
+                       size_t out_len);
+uint64_t plain_run_book(const uint8_t *book, size_t book_len, const uint8_t *sentence, size_t sentence_len, uint8_t *out,
+                        size_t out_len);
+uint64_t plain_run_table(const uint8_t *table, size_t table_len, const uint8_t *sentence, size_t sentence_len, uint8_t *out,
+                         size_t out_len);
+
+#endif

@@ -1,0 +1,243 @@
+#define _DEFAULT_SOURCE
+#include "calls.h"
+
+#include <inttypes.h>
+#include <signal.h>
+#include <stdio.h>
+#include <stdlib.h>
+#include <string.h>
+#include <unistd.h>
+
+#include "nedzsuka.h"
+#include "reference.h"
+#include "slices.h"
+
+enum { REFUSALS = 14, SIZES = 9, MOST_SHOWN = 4096, SECONDS_A_CALL = 100 };
+
+static const char *const call_name[CALLS] = {"nedzsuka_compile", "nedzsuka_run_book", "nedzsuka_run_table"};
+
+static struct {
+    enum call call;
+    const uint8_t *bytes, *sentence;
+    size_t length, sentence_len, work_len, out_len;
+    uint64_t ceiling, answer, expected;
+} now;
+
+static struct slice first_slice, sentence_slice, out_slice, work_slice;
+static uint8_t *expected_out;
+static uint16_t *expected_work;
+static uint64_t seed_used, calls_made, refusals[CALLS][REFUSALS], ten_at[257];
+static uint64_t tables_by_size[SIZES], most_held, longest_table;
+
+const uint8_t *last_out;
+
+static void print_hex(const char *name, const uint8_t *bytes, size_t length)
+{
+    fprintf(stderr, "%s, %zu bytes:", name, length);
+    for (size_t i = 0; i < length && i < MOST_SHOWN; i++)
+        fprintf(stderr, " %02x", bytes[i]);
+    fprintf(stderr, "%s\n", length > MOST_SHOWN ? " .. (the seed gives the rest)" : "");
+}
+
+void fail(const char *what)
+{
+    fprintf(stderr, "compare: %s: %s (seed %" PRIu64 ", call %" PRIu64 ")\n", call_name[now.call], what, seed_used, calls_made);
+    fprintf(stderr, "answer %" PRIu64 " with refusal %" PRIu64 ", expected %" PRIu64 " with refusal %" PRIu64 "\n", now.answer >> 8,
+            now.answer & 255, now.expected >> 8, now.expected & 255);
+    print_hex(now.call == RUN_TABLE ? "table" : "book", now.bytes, now.length);
+    if (now.call == COMPILE)
+        fprintf(stderr, "ceiling %" PRIu64 ", work slice of %zu entries, ", now.ceiling, now.work_len);
+    else
+        print_hex("sentence", now.sentence, now.sentence_len);
+    fprintf(stderr, "output slice of %zu bytes\n", now.out_len);
+    _exit(1);
+}
+
+static void on_signal(int number)
+{
+    fail(number == SIGALRM ? "the call doesn't end" : "the call reads or writes outside its slices, or stops the program");
+}
+
+static void *room_for(size_t bytes)
+{
+    void *room = malloc(bytes);
+
+    if (room == NULL) {
+        perror("memory for what is expected");
+        exit(2);
+    }
+    return room;
+}
+
+void start_calls(uint64_t seed)
+{
+    static const int caught[] = {SIGSEGV, SIGBUS, SIGILL, SIGFPE, SIGABRT, SIGTRAP, SIGALRM};
+
+    seed_used = seed;
+    random_seed(seed);
+    first_slice = make_slice(TABLE_ROOM);
+    sentence_slice = make_slice(LONGEST_TRIED_SENTENCE);
+    out_slice = make_slice(TABLE_ROOM);
+    work_slice = make_slice((MOST_WORK + 1000) * sizeof(uint16_t));
+    expected_out = room_for(TABLE_ROOM);
+    expected_work = room_for((MOST_WORK + 1000) * sizeof(uint16_t));
+    for (size_t i = 0; i < sizeof caught / sizeof *caught; i++)
+        signal(caught[i], on_signal);
+}
+
+size_t work_entries(size_t ceiling, size_t tags, size_t rules)
+{
+    return 16 * ceiling * (tags + 1) * (5 * rules + 8);
+}
+
+static void lend_input(struct slice *slice, const uint8_t *bytes, size_t length)
+{
+    lend(slice, length);
+    if (slice->at != NULL)
+        memcpy(slice->at, bytes, length);
+}
+
+/* Both output slices, or both work slices, begin with the same random bytes. */
+static void lend_random(struct slice *slice, size_t length, void *expected)
+{
+    lend(slice, length);
+    if (slice->at == NULL)
+        return;
+    fill_random(slice->at, length);
+    memcpy(expected, slice->at, length);
+}
+
+static void check_input(const struct slice *slice, const uint8_t *bytes, const char *changed)
+{
+    if (slice->length > 0 && memcmp(slice->at, bytes, slice->length) != 0)
+        fail(changed);
+    if (!guards_kept(slice))
+        fail("the call writes around an input slice");
+}
+
+static void check_output(const struct slice *slice, const void *expected, const char *differs)
+{
+    if (slice->length > 0 && memcmp(slice->at, expected, slice->length) != 0)
+        fail(differs);
+    if (!guards_kept(slice))
+        fail("the call writes around an output or work slice");
+}
+
+static void count_answer(void)
+{
+    uint64_t refusal = now.answer & 255;
+    size_t size = 0;
+
+    calls_made++;
+    refusals[now.call][refusal]++;
+    if (now.call != COMPILE)
+        return;
+    if (refusal == 10)
+        ten_at[now.ceiling]++;
+    if (refusal != 0)
+        return;
+    for (size_t states = (size_t)last_out[2] * 256 + last_out[3]; states > 1; states /= 2)
+        size++;
+    tables_by_size[size]++;
+    longest_table = now.answer >> 8 > longest_table ? now.answer >> 8 : longest_table;
+    for (size_t i = 4; last_out[i] != 0x00; i += last_out[i] == 0x33 ? 3 : 2)
+        if (last_out[i] == 0x31 && last_out[i + 1] > most_held)
+            most_held = last_out[i + 1];
+}
+
+static void check_call(void)
+{
+    alarm(0);
+    last_out = out_slice.at;
+    if (now.answer != now.expected)
+        fail("another answer than the reference's");
+    if ((now.answer & 255) >= REFUSALS)
+        fail("no such refusal");
+    check_input(&first_slice, now.bytes, "the call changes its book or table");
+    check_output(&out_slice, expected_out, "another output slice than the reference's");
+}
+
+static size_t rules_in(const uint8_t *valid_book)
+{
+    size_t rules = 0;
+
+    for (size_t i = 2; valid_book[i] != 0x00; i += valid_book[i] == 0x21 ? 3 : 2)
+        rules += valid_book[i] == 0x21;
+    return rules;
+}
+
+uint64_t compare_compile(const uint8_t *book, size_t book_len, uint64_t ceiling, size_t work_len, size_t out_len)
+{
+    now.call = COMPILE;
+    now.bytes = book;
+    now.length = book_len;
+    now.ceiling = ceiling;
+    now.work_len = work_len;
+    now.out_len = out_len;
+    lend_input(&first_slice, book, book_len);
+    lend_random(&out_slice, out_len, expected_out);
+    lend_random(&work_slice, work_len * sizeof(uint16_t), expected_work);
+    now.expected = reference_compile(book, book_len, ceiling, expected_work, work_len, expected_out, out_len);
+    alarm(SECONDS_A_CALL);
+    now.answer = nedzsuka_compile(first_slice.at, book_len, ceiling, (uint16_t *)(void *)work_slice.at, work_len, out_slice.at,
+                                  out_len);
+    check_call();
+    check_output(&work_slice, expected_work, "the work slice isn't what document 01 says");
+    count_answer();
+    if ((now.answer & 255) == 0 && now.answer >> 8 > nedzsuka_table_bytes(book[1], rules_in(book), ceiling))
+        fail("a longer table than the header allows");
+    return now.answer;
+}
+
+uint64_t compare_run(enum call call, const uint8_t *bytes, size_t length, const uint8_t *sentence, size_t sentence_len,
+                     size_t out_len)
+{
+    now.call = call;
+    now.bytes = bytes;
+    now.length = length;
+    now.sentence = sentence;
+    now.sentence_len = sentence_len;
+    now.out_len = out_len;
+    lend_input(&first_slice, bytes, length);
+    lend_input(&sentence_slice, sentence, sentence_len);
+    lend_random(&out_slice, out_len, expected_out);
+    now.expected = (call == RUN_BOOK ? reference_run_book : reference_run_table)(bytes, length, sentence, sentence_len,
+                                                                                   expected_out, out_len);
+    alarm(SECONDS_A_CALL);
+    now.answer = (call == RUN_BOOK ? nedzsuka_run_book : nedzsuka_run_table)(first_slice.at, length, sentence_slice.at,
+                                                                             sentence_len, out_slice.at, out_len);
+    check_call();
+    check_input(&sentence_slice, sentence, "the call changes its sentence");
+    count_answer();
+    return now.answer;
+}
+
+static void print_refusals(enum call call)
+{
+    const char *between = "";
+
+    printf("%s ", call_name[call] + strlen("nedzsuka_"));
+    for (int i = 0; i < REFUSALS; i++) {
+        if (refusals[call][i] == 0)
+            continue;
+        printf("%s%d:%" PRIu64, between, i, refusals[call][i]);
+        between = " ";
+    }
+    printf("; ");
+}
+
+void print_counts(size_t tried_out, size_t alike)
+{
+    int ceilings = 0;
+
+    for (int i = 1; i <= 256; i++)
+        ceilings += ten_at[i] > 0;
+    printf("compare: no difference in %" PRIu64 " calls, seed %" PRIu64 "; answers by refusal (0 none): ", calls_made, seed_used);
+    for (int call = 0; call < CALLS; call++)
+        print_refusals((enum call)call);
+    printf("10 at %d of 256 ceilings; tables of 1, 2-3, 4-7, .. 128-255, 256 states:", ceilings);
+    for (int size = 0; size < SIZES; size++)
+        printf(" %" PRIu64, tables_by_size[size]);
+    printf(", holding up to %" PRIu64 ", of up to %" PRIu64 " bytes; %zu tables found by trying words; %zu pairs that do the same\n",
+           most_held, longest_table, tried_out, alike);
+}

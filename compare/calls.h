@@ -1,0 +1,27 @@
+/* One call through the library and through the reference: answers, slices and guard bytes compared, what was seen counted. */
+#ifndef CALLS_H
+#define CALLS_H
+
+#include <stddef.h>
+#include <stdint.h>
+
+enum call { COMPILE, RUN_BOOK, RUN_TABLE, CALLS };
+enum { LONGEST_TRIED_SENTENCE = 70000, LONGEST_TABLE = 2061157, TABLE_ROOM = 2400000, MOST_WORK = 16 * 256 * 49 * 88 };
+
+/* The output slice of the last call, as the library left it. */
+extern const uint8_t *last_out;
+
+void start_calls(uint64_t seed);
+/* Ends the program with this message, the seed and the last call's input. */
+void fail(const char *what);
+
+uint64_t compare_compile(const uint8_t *book, size_t book_len, uint64_t ceiling, size_t work_len, size_t out_len);
+uint64_t compare_run(enum call call, const uint8_t *bytes, size_t length, const uint8_t *sentence, size_t sentence_len,
+                     size_t out_len);
+
+/* The entries that document 01 asks of a work slice. */
+size_t work_entries(size_t ceiling, size_t tags, size_t rules);
+/* Prints what was seen, on one line. */
+void print_counts(size_t tried_out, size_t alike);
+
+#endif

@@ -1,0 +1,217 @@
+#include "generate.h"
+
+#include <string.h>
+
+#include "slices.h"
+
+static uint8_t tag_but(size_t used, uint8_t not_this)
+{
+    uint8_t tag = (uint8_t)random_below(used - 1);
+
+    return tag >= not_this ? (uint8_t)(tag + 1) : tag;
+}
+
+struct made_rule random_rule(size_t tags, size_t used, size_t longest)
+{
+    struct made_rule rule = {{0}, 0, 0, 0};
+    size_t period = 1 + random_below(longest);
+
+    rule.length = (uint8_t)(1 + random_below(longest));
+    for (size_t i = 0; i < rule.length; i++)
+        rule.pattern[i] = i >= period ? rule.pattern[i - period] : (uint8_t)random_below(used);
+    rule.place = (uint8_t)random_below(rule.length);
+    rule.new_tag = tag_but(one_in(4) ? tags : used, rule.pattern[rule.place]);
+    return rule;
+}
+
+/* A rule that has to do with one before it: it undoes it, or changes its pattern otherwise. */
+static struct made_rule related_rule(const struct made_rule *before, size_t used)
+{
+    struct made_rule rule = *before;
+
+    if (one_in(2)) {
+        rule.pattern[rule.place] = before->new_tag;
+        rule.new_tag = before->pattern[before->place];
+    }
+    if (one_in(3)) {
+        rule.place = (uint8_t)random_below(rule.length);
+        rule.new_tag = tag_but(used, rule.pattern[rule.place]);
+    }
+    return rule;
+}
+
+struct made_book random_book(size_t tags, size_t rules, size_t longest)
+{
+    struct made_book book = {(uint8_t)tags, (uint8_t)rules, {{{0}, 0, 0, 0}}};
+    size_t used = 2 + random_below(tags < 6 ? tags - 1 : one_in(3) ? tags - 1 : 4);
+
+    for (size_t i = 0; i < rules; i++) {
+        if (i > 0 && one_in(3))
+            book.rule[i] = related_rule(&book.rule[random_below(i)], tags);
+        else
+            book.rule[i] = random_rule(tags, used, longest);
+    }
+    return book;
+}
+
+struct made_book separate_book(size_t tags, size_t rules, size_t longest)
+{
+    struct made_book book = {(uint8_t)tags, (uint8_t)rules, {{{0}, 0, 0, 0}}};
+    size_t own = tags / rules;
+
+    for (size_t i = 0; i < rules; i++) {
+        struct made_rule *rule = &book.rule[i];
+        *rule = random_rule(own, own, longest);
+        for (size_t t = 0; t < rule->length; t++)
+            rule->pattern[t] = (uint8_t)(rule->pattern[t] + i * own);
+        rule->new_tag = (uint8_t)(rule->new_tag + i * own);
+    }
+    return book;
+}
+
+struct made_book holding_book(size_t tags, size_t rules, size_t longest)
+{
+    struct made_book book = {(uint8_t)tags, (uint8_t)rules, {{{0}, 0, 0, 0}}};
+
+    for (size_t i = 0; i < rules; i++) {
+        struct made_rule *rule = &book.rule[i];
+        *rule = random_rule(tags, tags, longest);
+        rule->length = (uint8_t)(longest - random_below(2));
+        for (size_t t = 0; t < rule->length; t++)
+            rule->pattern[t] = (uint8_t)random_below(tags);
+        if (i > 0)
+            rule->pattern[rule->length - 1] = book.rule[i - 1].new_tag;
+        rule->place = 0;
+        rule->new_tag = tag_but(tags, rule->pattern[0]);
+    }
+    return book;
+}
+
+size_t write_book(const struct made_book *book, uint8_t *bytes)
+{
+    uint8_t *to = bytes;
+
+    *to++ = 0x20;
+    *to++ = book->tags;
+    for (size_t i = 0; i < book->rules; i++) {
+        *to++ = 0x21;
+        *to++ = book->rule[i].place;
+        *to++ = book->rule[i].new_tag;
+        for (size_t t = 0; t < book->rule[i].length; t++) {
+            *to++ = 0x22;
+            *to++ = book->rule[i].pattern[t];
+        }
+    }
+    *to++ = 0x00;
+    return (size_t)(to - bytes);
+}
+
+size_t lengthen_book(uint8_t *bytes, size_t length, size_t tags)
+{
+    uint8_t *to = bytes + length - 1;
+
+    if (one_in(2)) {
+        *to++ = 0x21;
+        *to++ = (uint8_t)random_below(2);
+        *to++ = (uint8_t)random_below(tags + 1);
+    }
+    *to++ = 0x22;
+    *to++ = (uint8_t)random_below(tags + 1);
+    *to++ = 0x00;
+    return (size_t)(to - bytes) - (one_in(3) ? random_below(LENGTHENED_ROOM + 1) : 0);
+}
+
+static uint8_t *write_tags(uint8_t *to, uint8_t command, size_t count, size_t tags)
+{
+    for (size_t i = 0; i < count; i++) {
+        *to++ = command;
+        *to++ = (uint8_t)random_below(tags);
+    }
+    return to;
+}
+
+size_t random_table(size_t tags, size_t states, size_t first_held, size_t most_held, uint8_t *bytes)
+{
+    uint8_t held[MOST_STATES + 1] = {0};
+    uint8_t *to = bytes;
+
+    for (size_t q = 1; q < states; q++)
+        held[q] = (uint8_t)(q + 1 == states ? most_held : random_below(most_held + 1));
+    held[0] = (uint8_t)first_held;
+    *to++ = 0x30;
+    *to++ = (uint8_t)tags;
+    *to++ = (uint8_t)(states / 256);
+    *to++ = (uint8_t)(states % 256);
+    for (size_t q = 0; q < states; q++) {
+        *to++ = 0x31;
+        *to++ = held[q];
+        to = write_tags(to, 0x32, held[q], tags);
+        for (size_t tag = 0; tag < tags; tag++) {
+            size_t next = random_below(states);
+            while (held[next] > held[q] + 1)
+                next = random_below(states);
+            *to++ = 0x33;
+            *to++ = (uint8_t)(next / 256);
+            *to++ = (uint8_t)(next % 256);
+            to = write_tags(to, 0x34, (size_t)held[q] + 1 - held[next], tags);
+        }
+    }
+    *to++ = 0x00;
+    return (size_t)(to - bytes);
+}
+
+static uint8_t likely_byte(void)
+{
+    static const uint8_t likely[] = {0x00, 0x01, 0x02, 0x06, 0x20, 0x21, 0x22, 0x23, 0x30, 0x31,
+                                     0x32, 0x33, 0x34, 0x35, 0x50, 0x51, 0xff};
+
+    return one_in(3) ? (uint8_t)random_bits() : likely[random_below(sizeof likely)];
+}
+
+static size_t damage_once(uint8_t *bytes, size_t length)
+{
+    size_t at = random_below(length + 1), from = random_below(length + 1);
+
+    switch (random_below(6)) {
+    case 0: /* one byte more */
+        memmove(bytes + at + 1, bytes + at, length - at);
+        bytes[at] = likely_byte();
+        return length + 1;
+    case 1: /* cut off */
+        return at;
+    case 2: /* one byte fewer */
+        if (at == length)
+            return length;
+        memmove(bytes + at, bytes + at + 1, length - at - 1);
+        return length - 1;
+    case 3: /* one byte moved elsewhere */
+        if (at < length && from < length)
+            bytes[at] = bytes[from];
+        return length;
+    case 4: /* one bit */
+        if (at < length)
+            bytes[at] ^= (uint8_t)(1u << random_below(8));
+        return length;
+    default: /* one byte */
+        if (at < length)
+            bytes[at] = likely_byte();
+        return length;
+    }
+}
+
+size_t damage(uint8_t *bytes, size_t length)
+{
+    size_t times = one_in(4) ? 1 + random_below(DAMAGED_ROOM) : 1;
+
+    while (times-- > 0)
+        length = damage_once(bytes, length);
+    return length;
+}
+
+void random_sentence(uint8_t *sentence, size_t length, size_t tags)
+{
+    size_t used = 1 + random_below(tags < 5 || one_in(4) ? tags : 5);
+
+    for (size_t i = 0; i < length; i++)
+        sentence[i] = (uint8_t)random_below(used);
+}

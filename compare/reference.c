@@ -1,0 +1,681 @@
+/* The second implementation. It compiles rule by rule: the smallest transducer so far is paired with the matched lengths of the next
+   rule, each pair's common front is a shortest distance, and states are found in the order of their numbers, a newly reached pair
+   being compared with the states found before it. Scratch memory is static: one thread only. */
+#include "reference.h"
+
+#include <string.h>
+
+enum {
+    MOST_TAGS = 48,
+    MOST_RULES = 16,
+    LONGEST_PATTERN = 6,
+    MOST_STATES = 256,
+    MOST_HELD = 80,
+    LONGEST_SENTENCE = 65535,
+    MOST_PAIRS = MOST_STATES * (LONGEST_PATTERN + 1),
+    LONGEST_WORD = 90,
+    LONGEST_TABLE = 2061157
+};
+
+struct rule {
+    uint8_t pattern[LONGEST_PATTERN];
+    int length, place, new_tag;
+};
+
+struct book {
+    int tags, rules;
+    struct rule rule[MOST_RULES];
+};
+
+struct word {
+    uint8_t length, tag[LONGEST_WORD];
+};
+
+struct row {
+    struct word final, out[MOST_TAGS];
+    uint16_t next[MOST_TAGS];
+};
+
+struct machine {
+    int tags, states;
+    struct row row[MOST_STATES];
+};
+
+/* ---- The bytes of a book, one byte at a time ---- */
+
+enum expected { OPENING, TAGS, COMMAND, PLACE, NEW_TAG, PATTERN_TAG, NOTHING };
+
+static int refusal_at_closing(const struct book *book)
+{
+    const struct rule *last;
+
+    if (book->rules == 0)
+        return 0;
+    last = &book->rule[book->rules - 1];
+    if (last->length == 0)
+        return 3;
+    if (last->place >= last->length)
+        return 5;
+    return last->pattern[last->place] == last->new_tag ? 6 : 0;
+}
+
+static int read_command(struct book *book, uint8_t byte, enum expected *expected)
+{
+    int refusal = 0;
+
+    if (byte == 0x22) {
+        *expected = PATTERN_TAG;
+        if (book->rules == 0)
+            return 1;
+        return book->rule[book->rules - 1].length == LONGEST_PATTERN ? 3 : 0;
+    }
+    if (byte != 0x21 && byte != 0x00)
+        return 1;
+    refusal = refusal_at_closing(book);
+    if (refusal)
+        return refusal;
+    if (byte == 0x00) {
+        *expected = NOTHING;
+        return 0;
+    }
+    if (book->rules == MOST_RULES)
+        return 7;
+    book->rule[book->rules++].length = 0;
+    *expected = PLACE;
+    return 0;
+}
+
+static int read_operand(struct book *book, uint8_t byte, enum expected *expected)
+{
+    struct rule *last;
+    enum expected now = *expected;
+
+    *expected = now == PLACE ? NEW_TAG : COMMAND;
+    if (now == TAGS) {
+        book->tags = byte;
+        return byte < 2 || byte > MOST_TAGS ? 2 : 0;
+    }
+    last = &book->rule[book->rules - 1];
+    if (now == PLACE) {
+        last->place = byte;
+        return 0;
+    }
+    if (byte >= book->tags)
+        return 4;
+    if (now == NEW_TAG)
+        last->new_tag = byte;
+    else
+        last->pattern[last->length++] = byte;
+    return 0;
+}
+
+static int read_book(const uint8_t *bytes, size_t length, struct book *book)
+{
+    enum expected expected = OPENING;
+    int refusal = 0;
+
+    book->rules = 0;
+    for (size_t i = 0; i < length && !refusal; i++) {
+        if (expected == NOTHING)
+            return 1;
+        if (expected == OPENING) {
+            refusal = bytes[i] == 0x20 ? 0 : 1;
+            expected = TAGS;
+        } else if (expected == COMMAND) {
+            refusal = read_command(book, bytes[i], &expected);
+        } else {
+            refusal = read_operand(book, bytes[i], &expected);
+        }
+    }
+    if (refusal)
+        return refusal;
+    return expected == NOTHING ? 0 : 1;
+}
+
+/* ---- The run of a book ---- */
+
+static int refusal_of_sentence(const uint8_t *sentence, size_t length, int tags, size_t room)
+{
+    if (length > LONGEST_SENTENCE)
+        return 13;
+    for (size_t i = 0; i < length; i++)
+        if (sentence[i] >= tags)
+            return 4;
+    return room < length ? 11 : 0;
+}
+
+static uint64_t changed_times_256(const uint8_t *sentence, const uint8_t *result, size_t length)
+{
+    uint64_t answer = 0;
+
+    for (size_t i = 0; i < length; i++)
+        if (sentence[i] != result[i])
+            answer += 256;
+    return answer;
+}
+
+static int occurs_at(const struct rule *rule, const uint8_t *tags)
+{
+    for (int i = 0; i < rule->length; i++)
+        if (tags[i] != rule->pattern[i])
+            return 0;
+    return 1;
+}
+
+static void rewrite_leftmost(const struct rule *rule, uint8_t *sentence, size_t length)
+{
+    for (size_t x = 0; x + (size_t)rule->length <= length; x++) {
+        if (occurs_at(rule, sentence + x)) {
+            sentence[x + (size_t)rule->place] = (uint8_t)rule->new_tag;
+            return;
+        }
+    }
+}
+
+uint64_t reference_run_book(const uint8_t *book_bytes, size_t book_len, const uint8_t *sentence, size_t sentence_len,
+                            uint8_t *out, size_t out_len)
+{
+    struct book book;
+    int refusal = read_book(book_bytes, book_len, &book);
+
+    if (!refusal)
+        refusal = refusal_of_sentence(sentence, sentence_len, book.tags, out_len);
+    if (refusal)
+        return (uint64_t)refusal;
+    for (size_t i = 0; i < sentence_len; i++)
+        out[i] = sentence[i];
+    for (int i = 0; i < book.rules; i++)
+        rewrite_leftmost(&book.rule[i], out, sentence_len);
+    return changed_times_256(sentence, out, sentence_len);
+}
+
+/* ---- The bytes of a table, and its run ---- */
+
+struct cursor {
+    const uint8_t *bytes;
+    size_t place, length;
+};
+
+static void put(struct word *word, int tag)
+{
+    word->tag[word->length++] = (uint8_t)tag;
+}
+
+/* The next byte, or -1 behind the last. */
+static int take(struct cursor *cursor)
+{
+    return cursor->place < cursor->length ? cursor->bytes[cursor->place++] : -1;
+}
+
+static int take_number(struct cursor *cursor)
+{
+    int high = take(cursor), low = take(cursor);
+
+    return high < 0 || low < 0 ? -1 : high * 256 + low;
+}
+
+static int take_command_and_tag(struct cursor *cursor, int command, int tags, struct word *word)
+{
+    int byte = take(cursor), tag = take(cursor);
+
+    if (byte != command || tag < 0 || tag >= tags || word->length > MOST_HELD)
+        return 0;
+    put(word, tag);
+    return 1;
+}
+
+static int take_row(struct cursor *cursor, const struct machine *table, struct row *row)
+{
+    int command = take(cursor), held = take(cursor), next;
+
+    if (command != 0x31 || held < 0 || held > MOST_HELD)
+        return 0;
+    row->final.length = 0;
+    for (int i = 0; i < held; i++)
+        if (!take_command_and_tag(cursor, 0x32, table->tags, &row->final))
+            return 0;
+    for (int tag = 0; tag < table->tags; tag++) {
+        command = take(cursor);
+        next = take_number(cursor);
+        if (command != 0x33 || next < 0 || next >= table->states)
+            return 0;
+        row->next[tag] = (uint16_t)next;
+        row->out[tag].length = 0;
+        while (cursor->place < cursor->length && cursor->bytes[cursor->place] == 0x34)
+            if (!take_command_and_tag(cursor, 0x34, table->tags, &row->out[tag]))
+                return 0;
+    }
+    return 1;
+}
+
+static int puts_out_what_it_takes(const struct machine *table)
+{
+    for (int state = 0; state < table->states; state++) {
+        const struct row *row = &table->row[state];
+        for (int tag = 0; tag < table->tags; tag++)
+            if (row->final.length + 1 != row->out[tag].length + table->row[row->next[tag]].final.length)
+                return 0;
+    }
+    return 1;
+}
+
+static int read_table(const uint8_t *bytes, size_t length, struct machine *table)
+{
+    struct cursor cursor = {bytes, 0, length};
+
+    if (take(&cursor) != 0x30)
+        return 0;
+    table->tags = take(&cursor);
+    table->states = take_number(&cursor);
+    if (table->tags < 2 || table->tags > MOST_TAGS || table->states < 1 || table->states > MOST_STATES)
+        return 0;
+    for (int state = 0; state < table->states; state++)
+        if (!take_row(&cursor, table, &table->row[state]))
+            return 0;
+    if (take(&cursor) != 0x00 || cursor.place != length)
+        return 0;
+    return table->row[0].final.length == 0 && puts_out_what_it_takes(table);
+}
+
+static uint8_t *copy_word(uint8_t *to, const struct word *word)
+{
+    memcpy(to, word->tag, word->length);
+    return to + word->length;
+}
+
+uint64_t reference_run_table(const uint8_t *table_bytes, size_t table_len, const uint8_t *sentence, size_t sentence_len,
+                             uint8_t *out, size_t out_len)
+{
+    static struct machine table;
+    const struct row *row = &table.row[0];
+    uint8_t *to = out;
+    int refusal;
+
+    if (!read_table(table_bytes, table_len, &table))
+        return 12;
+    refusal = refusal_of_sentence(sentence, sentence_len, table.tags, out_len);
+    if (refusal)
+        return (uint64_t)refusal;
+    if (sentence_len == 0)
+        return 0;
+    for (size_t i = 0; i < sentence_len; i++) {
+        to = copy_word(to, &row->out[sentence[i]]);
+        row = &table.row[row->next[sentence[i]]];
+    }
+    copy_word(to, &row->final);
+    return changed_times_256(sentence, out, sentence_len);
+}
+
+/* ---- One rule's transducer (definition 2): its states are the matched lengths ---- */
+
+static int held_at(const struct rule *rule, int matched)
+{
+    return matched > rule->place && matched < rule->length ? matched - rule->place : 0;
+}
+
+/* The longest end of the matched tags and the tag read that begins the pattern. */
+static int matched_after(const struct rule *rule, int matched, int tag)
+{
+    uint8_t read[LONGEST_PATTERN + 1];
+    int longest = matched + 1;
+
+    memcpy(read, rule->pattern, (size_t)matched);
+    read[matched] = (uint8_t)tag;
+    while (memcmp(read + matched + 1 - longest, rule->pattern, (size_t)longest) != 0)
+        longest--;
+    return longest;
+}
+
+/* Feeds one tag to the rule; what it puts out goes behind the word. */
+static int feed(const struct rule *rule, int matched, int tag, struct word *word)
+{
+    int next, free_tags;
+
+    if (matched == rule->length) {
+        put(word, tag);
+        return matched;
+    }
+    next = matched_after(rule, matched, tag);
+    if (next == rule->length) {
+        put(word, rule->new_tag);
+        for (int i = rule->place + 1; i < rule->length; i++)
+            put(word, rule->pattern[i]);
+        return next;
+    }
+    free_tags = held_at(rule, matched) + 1 - held_at(rule, next);
+    for (int i = 0; i < free_tags; i++)
+        put(word, i < held_at(rule, matched) ? rule->pattern[rule->place + i] : tag);
+    return next;
+}
+
+static int feed_word(const struct rule *rule, int matched, const struct word *fed, struct word *word)
+{
+    word->length = 0;
+    for (int i = 0; i < fed->length; i++)
+        matched = feed(rule, matched, fed->tag[i], word);
+    return matched;
+}
+
+/* ---- Pairs of a state so far and a matched length of the next rule ---- */
+
+struct pairs {
+    int tags, count;
+    int16_t number[MOST_STATES][LONGEST_PATTERN + 1];
+    uint16_t state[MOST_PAIRS];
+    uint8_t matched[MOST_PAIRS];
+    struct row row[MOST_PAIRS];
+    uint8_t front[MOST_PAIRS];
+    uint16_t kind[MOST_PAIRS], parent[MOST_PAIRS], size[MOST_PAIRS];
+    uint32_t mark[MOST_PAIRS];
+};
+
+static int pair_number(struct pairs *pairs, int state, int matched)
+{
+    int16_t *number = &pairs->number[state][matched];
+
+    if (*number < 0) {
+        *number = (int16_t)pairs->count++;
+        pairs->state[*number] = (uint16_t)state;
+        pairs->matched[*number] = (uint8_t)matched;
+    }
+    return *number;
+}
+
+static void make_pairs(struct pairs *pairs, const struct machine *before, const struct rule *rule)
+{
+    memset(pairs->number, -1, sizeof pairs->number);
+    pairs->tags = before->tags;
+    pairs->count = 0;
+    pair_number(pairs, 0, 0);
+    for (int i = 0; i < pairs->count; i++) {
+        const struct row *from = &before->row[pairs->state[i]];
+        struct row *row = &pairs->row[i];
+        int matched = feed_word(rule, pairs->matched[i], &from->final, &row->final);
+        for (int held = 0, all = held_at(rule, matched); held < all; held++)
+            put(&row->final, rule->pattern[rule->place + held]);
+        for (int tag = 0; tag < pairs->tags; tag++) {
+            matched = feed_word(rule, pairs->matched[i], &from->out[tag], &row->out[tag]);
+            row->next[tag] = (uint16_t)pair_number(pairs, from->next[tag], matched);
+        }
+    }
+}
+
+/* How far the final word agrees with what is put out for one tag and the end. */
+static int agreement(const struct word *final, const struct word *out, const struct word *then)
+{
+    int i = 0;
+
+    while (i < final->length && i < out->length + then->length) {
+        int tag = i < out->length ? out->tag[i] : then->tag[i - out->length];
+        if (tag != final->tag[i])
+            break;
+        i++;
+    }
+    return i;
+}
+
+/* The length of the common front of all that a pair can still put out: the shortest distance to a pair whose final word parts from
+   what a further tag gives, a step being as long as what it puts out. */
+static void find_fronts(struct pairs *pairs)
+{
+    int shortened = 1;
+
+    for (int i = 0; i < pairs->count; i++) {
+        const struct row *row = &pairs->row[i];
+        int front = row->final.length;
+        for (int tag = 0; tag < pairs->tags && front > 0; tag++) {
+            int agreed = agreement(&row->final, &row->out[tag], &pairs->row[row->next[tag]].final);
+            front = agreed < front ? agreed : front;
+        }
+        pairs->front[i] = (uint8_t)front;
+    }
+    while (shortened) {
+        shortened = 0;
+        for (int i = 0; i < pairs->count; i++) {
+            const struct row *row = &pairs->row[i];
+            for (int tag = 0; tag < pairs->tags && pairs->front[i] > 0; tag++) {
+                int through = row->out[tag].length + pairs->front[row->next[tag]];
+                if (through < pairs->front[i]) {
+                    pairs->front[i] = (uint8_t)through;
+                    shortened = 1;
+                }
+            }
+        }
+    }
+}
+
+static void drop_front(struct word *word, int front)
+{
+    word->length = (uint8_t)(word->length - front);
+    memmove(word->tag, word->tag + front, word->length);
+}
+
+/* Each front is put out by the steps that lead to its pair. */
+static void put_out_early(struct pairs *pairs)
+{
+    for (int i = 0; i < pairs->count; i++) {
+        struct row *row = &pairs->row[i];
+        for (int tag = 0; tag < pairs->tags; tag++) {
+            int next = row->next[tag];
+            for (int t = 0; t < pairs->front[next]; t++)
+                put(&row->out[tag], pairs->row[next].final.tag[t]);
+            drop_front(&row->out[tag], pairs->front[i]);
+        }
+    }
+    for (int i = 0; i < pairs->count; i++)
+        drop_front(&pairs->row[i].final, pairs->front[i]);
+}
+
+/* ---- Which pairs do the same ---- */
+
+static int same_word(const struct word *a, const struct word *b)
+{
+    return a->length == b->length && memcmp(a->tag, b->tag, a->length) == 0;
+}
+
+static uint32_t mark_of_word(uint32_t mark, const struct word *word)
+{
+    mark = (mark ^ word->length) * 16777619u;
+    for (int i = 0; i < word->length; i++)
+        mark = (mark ^ word->tag[i]) * 16777619u;
+    return mark;
+}
+
+static int same_words(const struct row *a, const struct row *b, int tags)
+{
+    if (!same_word(&a->final, &b->final))
+        return 0;
+    for (int tag = 0; tag < tags; tag++)
+        if (!same_word(&a->out[tag], &b->out[tag]))
+            return 0;
+    return 1;
+}
+
+/* Two pairs are of one kind if their words agree, wherever their steps lead. The kind is the first such pair. */
+static void find_kinds(struct pairs *pairs)
+{
+    for (int i = 0; i < pairs->count; i++) {
+        int kind = 0;
+        uint32_t mark = mark_of_word(2166136261u, &pairs->row[i].final);
+        for (int tag = 0; tag < pairs->tags; tag++)
+            mark = mark_of_word(mark, &pairs->row[i].out[tag]);
+        pairs->mark[i] = mark;
+        while (pairs->mark[kind] != mark || !same_words(&pairs->row[kind], &pairs->row[i], pairs->tags))
+            kind++;
+        pairs->kind[i] = (uint16_t)kind;
+        pairs->parent[i] = (uint16_t)i;
+        pairs->size[i] = 1;
+    }
+}
+
+static int root_of(const struct pairs *pairs, int pair)
+{
+    while (pairs->parent[pair] != pair)
+        pair = pairs->parent[pair];
+    return pair;
+}
+
+static int join(struct pairs *pairs, int a, int b)
+{
+    int small = pairs->size[a] < pairs->size[b] ? a : b, big = small == a ? b : a;
+
+    pairs->parent[small] = (uint16_t)big;
+    pairs->size[big] = (uint16_t)(pairs->size[big] + pairs->size[small]);
+    return small;
+}
+
+static void part_again(struct pairs *pairs, const uint16_t *joined, int count)
+{
+    while (count-- > 0) {
+        int small = joined[count], big = pairs->parent[small];
+        pairs->size[big] = (uint16_t)(pairs->size[big] - pairs->size[small]);
+        pairs->parent[small] = (uint16_t)small;
+    }
+}
+
+/* Supposes that both do the same and follows what that entails, until kinds differ or nothing new follows. */
+static int do_the_same(struct pairs *pairs, int first, int second)
+{
+    static uint16_t left[MOST_PAIRS], right[MOST_PAIRS], joined[MOST_PAIRS];
+    int made = 0, done = 0;
+
+    if (root_of(pairs, first) == root_of(pairs, second))
+        return 1;
+    if (pairs->kind[first] != pairs->kind[second])
+        return 0;
+    left[0] = (uint16_t)first;
+    right[0] = (uint16_t)second;
+    joined[made++] = (uint16_t)join(pairs, root_of(pairs, first), root_of(pairs, second));
+    for (; done < made; done++) {
+        for (int tag = 0; tag < pairs->tags; tag++) {
+            int a = pairs->row[left[done]].next[tag], b = pairs->row[right[done]].next[tag];
+            int root_a = root_of(pairs, a), root_b = root_of(pairs, b);
+            if (root_a == root_b)
+                continue;
+            if (pairs->kind[a] != pairs->kind[b]) {
+                part_again(pairs, joined, made);
+                return 0;
+            }
+            left[made] = (uint16_t)a;
+            right[made] = (uint16_t)b;
+            joined[made++] = (uint16_t)join(pairs, root_a, root_b);
+        }
+    }
+    return 1;
+}
+
+/* ---- The smallest transducer with one more rule ---- */
+
+/* Finds the states in the order of their numbers; 0 where there are more than the ceiling. */
+static int number_states(struct pairs *pairs, int ceiling, struct machine *after)
+{
+    static int16_t state_of[MOST_PAIRS];
+    int found[MOST_STATES] = {0};
+
+    memset(state_of, -1, sizeof state_of);
+    state_of[0] = 0;
+    after->tags = pairs->tags;
+    after->states = 1;
+    for (int state = 0; state < after->states; state++) {
+        after->row[state] = pairs->row[found[state]];
+        for (int tag = 0; tag < pairs->tags; tag++) {
+            int pair = pairs->row[found[state]].next[tag], same = 0;
+            if (state_of[pair] < 0) {
+                while (same < after->states && !do_the_same(pairs, found[same], pair))
+                    same++;
+                if (same == ceiling)
+                    return 0;
+                if (same == after->states)
+                    found[after->states++] = pair;
+                state_of[pair] = (int16_t)same;
+            }
+            after->row[state].next[tag] = (uint16_t)state_of[pair];
+        }
+    }
+    return 1;
+}
+
+static int add_rule(struct machine *machine, const struct rule *rule, int ceiling)
+{
+    static struct pairs pairs;
+
+    make_pairs(&pairs, machine, rule);
+    find_fronts(&pairs);
+    put_out_early(&pairs);
+    find_kinds(&pairs);
+    return number_states(&pairs, ceiling, machine);
+}
+
+static void change_nothing(struct machine *machine, int tags)
+{
+    machine->tags = tags;
+    machine->states = 1;
+    machine->row[0].final.length = 0;
+    for (int tag = 0; tag < tags; tag++) {
+        machine->row[0].next[tag] = 0;
+        machine->row[0].out[tag].length = 0;
+        put(&machine->row[0].out[tag], tag);
+    }
+}
+
+static uint8_t *write_word(uint8_t *to, uint8_t command, const struct word *word)
+{
+    for (int i = 0; i < word->length; i++) {
+        *to++ = command;
+        *to++ = word->tag[i];
+    }
+    return to;
+}
+
+static size_t write_table(const struct machine *machine, uint8_t *bytes)
+{
+    uint8_t *to = bytes;
+
+    *to++ = 0x30;
+    *to++ = (uint8_t)machine->tags;
+    *to++ = (uint8_t)(machine->states / 256);
+    *to++ = (uint8_t)(machine->states % 256);
+    for (int state = 0; state < machine->states; state++) {
+        const struct row *row = &machine->row[state];
+        *to++ = 0x31;
+        *to++ = row->final.length;
+        to = write_word(to, 0x32, &row->final);
+        for (int tag = 0; tag < machine->tags; tag++) {
+            *to++ = 0x33;
+            *to++ = (uint8_t)(row->next[tag] / 256);
+            *to++ = (uint8_t)(row->next[tag] % 256);
+            to = write_word(to, 0x34, &row->out[tag]);
+        }
+    }
+    *to++ = 0x00;
+    return (size_t)(to - bytes);
+}
+
+uint64_t reference_compile(const uint8_t *book_bytes, size_t book_len, uint64_t ceiling, uint16_t *work, size_t work_len,
+                           uint8_t *out, size_t out_len)
+{
+    static struct machine machine;
+    static uint8_t table[LONGEST_TABLE];
+    struct book book;
+    size_t entries, length;
+    int refusal;
+
+    if (ceiling < 1 || ceiling > MOST_STATES)
+        return 8;
+    refusal = read_book(book_bytes, book_len, &book);
+    if (refusal)
+        return (uint64_t)refusal;
+    entries = 16 * (size_t)ceiling * (size_t)(book.tags + 1) * (size_t)(5 * book.rules + 8);
+    if (work_len < entries)
+        return 9;
+    memset(work, 0, entries * sizeof *work);
+    change_nothing(&machine, book.tags);
+    for (int i = 0; i < book.rules; i++)
+        if (!add_rule(&machine, &book.rule[i], (int)ceiling))
+            return (uint64_t)(i + 1) * 256 + 10;
+    length = write_table(&machine, table);
+    if (out_len < length)
+        return 11;
+    memcpy(out, table, length);
+    return (uint64_t)length * 256;
+}

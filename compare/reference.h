@@ -1,0 +1,15 @@
+/* The three calls a second time, written from the published definitions alone, with the library's signatures. */
+#ifndef REFERENCE_H
+#define REFERENCE_H
+
+#include <stddef.h>
+#include <stdint.h>
+
+uint64_t reference_compile(const uint8_t *book, size_t book_len, uint64_t ceiling, uint16_t *work, size_t work_len,
+                           uint8_t *out, size_t out_len);
+uint64_t reference_run_book(const uint8_t *book, size_t book_len, const uint8_t *sentence, size_t sentence_len,
+                            uint8_t *out, size_t out_len);
+uint64_t reference_run_table(const uint8_t *table, size_t table_len, const uint8_t *sentence, size_t sentence_len,
+                             uint8_t *out, size_t out_len);
+
+#endif

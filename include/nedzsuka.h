@@ -1,0 +1,154 @@
+/* nedzsuka: books of part-of-speech tag rules, and their smallest sequential transducers as tables.
+
+   A tag is a number from 0 to K - 1. A rule changes one tag of a pattern of 1 to 6 tags: the leftmost occurrence of the pattern in the
+   sentence, once; where it occurs nowhere, the sentence stays as it is. A book applies its rules in order, each to the result of the
+   one before. A table is a sequential transducer: it starts in state 0, reads the tags once from left to right, puts out zero or more
+   tags at each, and at the end the final word of its state.
+
+   What holds of every call
+   - For any bytes, numbers and slices it ends, with a result or with a numbered refusal, and which one is fixed by what it was given.
+   - The answer is one number: the result's length or count times 256, plus the refusal, 0 for none. On a refusal the upper part is 0;
+     with 10 it is the rule's number. nedzsuka_value and nedzsuka_refusal take it apart.
+   - A refused call writes no byte of the output slice. Otherwise the result stands at the front of the output slice, and what lies
+     beyond the result keeps its bytes.
+   - The other slices are only read, the work slice of compile excepted.
+   - It allocates nothing and keeps nothing from one call to the next: several threads may call at once, each with output and work
+     slices of its own.
+
+   What is asked of the caller
+   - A pointer reaches as many entries as the length beside it says. It may be null only where that length is 0.
+   - The work pointer is aligned for uint16_t.
+   - The output slice and the work slice overlap no other slice of the same call. Slices that are only read may overlap one another.
+
+   Bytes of a book (hexadecimal): 20 K opens it; 21 p t opens a rule that puts tag t in place p, counted from 0, and closes the rule
+   before; 22 t is the next tag of the rule's pattern; 00 closes the last rule and the book, and is the last byte.
+
+   Bytes of a table: 30 K, then the number of states S in two bytes, the high one first; for each state 31 with the number of held
+   tags, 32 t for each of them, and for each tag 0 to K - 1 33 with the next state in two bytes, followed by 34 t for each tag put out;
+   00, the last byte. The held tags are the state's final word. A table is well formed if its bytes follow this layout, K is 2 to 48, S
+   is 1 to 256, each state holds at most 80 tags, every tag is below K, every next state below S, state 0 holds nothing, and each step
+   from a state that holds d tags to one that holds e puts out exactly d + 1 - e. It need not be the smallest. */
+#ifndef NEDZSUKA_H
+#define NEDZSUKA_H
+
+#include <stddef.h>
+#include <stdint.h>
+
+#ifdef __cplusplus
+extern "C" {
+#endif
+
+/* The bounds. */
+enum nedzsuka_bound {
+    NEDZSUKA_LEAST_TAGS = 2,            /* K is at least this, */
+    NEDZSUKA_MOST_TAGS = 48,            /* and at most this */
+    NEDZSUKA_MOST_RULES = 16,           /* rules in a book */
+    NEDZSUKA_LONGEST_PATTERN = 6,       /* tags in a pattern; at least one */
+    NEDZSUKA_MOST_STATES = 256,         /* states of a table, and the greatest ceiling; at least one */
+    NEDZSUKA_MOST_HELD = 80,            /* tags that a state holds */
+    NEDZSUKA_LONGEST_SENTENCE = 65535,  /* tags */
+    NEDZSUKA_LONGEST_BOOK = 243,        /* bytes of a valid book: 2 + 16 * (3 + 6 * 2) + 1 */
+    NEDZSUKA_LONGEST_TABLE = 2061157,   /* bytes of a well-formed table, compiled or not: 4 + 242 + 255 * 8082 + 1 */
+    NEDZSUKA_MOST_WORK = 17661952       /* entries of the work slice that are enough for every call: 16 * 256 * 49 * 88 */
+};
+
+/* The refusals. */
+enum nedzsuka_refusal_number {
+    NEDZSUKA_OK = 0,                 /* none: the answer carries a result */
+    NEDZSUKA_BAD_COMMAND = 1,        /* book: a command unknown or out of place, bytes missing, or bytes after 00 */
+    NEDZSUKA_BAD_TAG_COUNT = 2,      /* book: K outside 2 to 48 */
+    NEDZSUKA_BAD_PATTERN = 3,        /* book: a pattern that is empty when its rule closes, or a seventh 22 */
+    NEDZSUKA_BAD_TAG = 4,            /* book or sentence: a tag or new tag not below K */
+    NEDZSUKA_BAD_PLACE = 5,          /* book: p not below the pattern's length when the rule closes */
+    NEDZSUKA_SAME_TAG = 6,           /* book: the new tag is the tag at p when the rule closes */
+    NEDZSUKA_TOO_MANY_RULES = 7,     /* book: a seventeenth 21 */
+    NEDZSUKA_BAD_CEILING = 8,        /* compile: a ceiling outside 1 to 256 */
+    NEDZSUKA_SHORT_WORK = 9,         /* compile: fewer work entries than nedzsuka_work_entries says */
+    NEDZSUKA_TOO_MANY_STATES = 10,   /* compile: the first i rules need more states than the ceiling; i is the answer's value */
+    NEDZSUKA_SHORT_OUTPUT = 11,      /* all calls: the output slice is shorter than the result */
+    NEDZSUKA_BAD_TABLE = 12,         /* table: not well formed */
+    NEDZSUKA_LONG_SENTENCE = 13      /* sentence: longer than 65,535 tags */
+};
+
+/* Compiles a book to its smallest table and answers the table's length in bytes.
+
+   The table at the front of out turns every sentence over the book's tags, of every length, into what the book makes of it, and no
+   sequential transducer that does so has fewer states, whatever its initial word and however it puts out; states that are never
+   reached count. Its number of states is the S in its bytes. Each state puts out as early as can be: what it can still put out has no
+   common front. States are numbered as first reached from state 0, lower-numbered states first and within a state lower tags first.
+   Two books over equally many tags that compile get the same bytes exactly if they make the same of every sentence.
+
+   Refusals, in this order:
+   - 8: the ceiling is outside 1 to 256.
+   - 1 to 7: the book is not valid. The refusal at the earliest byte is given; the end of the bytes counts as a place after the last.
+     At a closing 3, 5 and 6 come in that order, all before 7.
+   - 9: work_len is below 16 * ceiling * (K + 1) * (5 * m + 8) for a book of m rules.
+   - 10 with i: given exactly if some leading part of the book, its first i rules with i from 1 to m, needs more than ceiling states in
+     every sequential transducer that does what these rules do; the least such i is named.
+   - 11: out_len is below the table's length.
+
+   The work slice keeps its numbers on the refusals before 10 (8, 1 to 7 and 9). On 10, on 11 and with a result its first
+   16 * ceiling * (K + 1) * (5 * m + 8) entries are zero and the rest unchanged. What it holds before the call plays no part. */
+uint64_t nedzsuka_compile(const uint8_t *book, size_t book_len, uint64_t ceiling, uint16_t *work, size_t work_len, uint8_t *out,
+                          size_t out_len);
+
+/* Runs a book over a sentence, one tag a byte: what its rules leave, applied in order, goes to the front of out and is as long as the
+   sentence. Answers the number of places at which sentence and result differ: two changes that undo one another count as none.
+
+   Refusals, in this order:
+   - 1 to 7: the book is not valid, as for nedzsuka_compile.
+   - 13: sentence_len is above 65,535.
+   - 4: a tag of the sentence is not below the book's K.
+   - 11: out_len is below sentence_len. */
+uint64_t nedzsuka_run_book(const uint8_t *book, size_t book_len, const uint8_t *sentence, size_t sentence_len, uint8_t *out,
+                           size_t out_len);
+
+/* Runs a table over a sentence, one tag a byte: what the transducer puts out, its final word included, goes to the front of out and is
+   as long as the sentence. Answers the number of places at which sentence and result differ. For a compiled table the answer and
+   the result are those of its book.
+
+   Refusals, in this order:
+   - 12: the table is not well formed.
+   - 13: sentence_len is above 65,535.
+   - 4: a tag of the sentence is not below the table's K.
+   - 11: out_len is below sentence_len. */
+uint64_t nedzsuka_run_table(const uint8_t *table, size_t table_len, const uint8_t *sentence, size_t sentence_len, uint8_t *out,
+                            size_t out_len);
+
+/* The refusal of an answer, 0 for none. */
+static inline unsigned nedzsuka_refusal(uint64_t answer)
+{
+    return (unsigned)(answer & 255u);
+}
+
+/* The length or count of an answer; the rule, counted from 1, with 10; 0 with any other refusal. */
+static inline uint64_t nedzsuka_value(uint64_t answer)
+{
+    return answer >> 8;
+}
+
+/* The entries that compile asks of its work slice for a ceiling, the book's K and its number of rules: enough whenever the ceiling is 1
+   to 256, K 2 to 48 and the rules at most 16. For arguments outside these bounds, which compile refuses, it is 0. It is never above
+   NEDZSUKA_MOST_WORK, so that neither the product nor the number of bytes overflows where size_t has 32 bits. */
+static inline size_t nedzsuka_work_entries(uint64_t ceiling, uint64_t tags, uint64_t rules)
+{
+    if (ceiling < 1 || ceiling > NEDZSUKA_MOST_STATES || tags < NEDZSUKA_LEAST_TAGS || tags > NEDZSUKA_MOST_TAGS ||
+        rules > NEDZSUKA_MOST_RULES)
+        return 0;
+    return (size_t)(16 * ceiling * (tags + 1) * (5 * rules + 8));
+}
+
+/* Bytes that are enough for the table of every book with this K, at most this many rules and at most this ceiling of states: a rule has
+   each state hold at most 5 tags more. For arguments outside the bounds it is 0. */
+static inline size_t nedzsuka_table_bytes(uint64_t tags, uint64_t rules, uint64_t ceiling)
+{
+    if (nedzsuka_work_entries(ceiling, tags, rules) == 0)
+        return 0;
+    return (size_t)(4 + (2 + 5 * tags) + (ceiling - 1) * (2 + 10 * rules + tags * (3 + 2 * (5 * rules + 1))) + 1);
+}
+
+#ifdef __cplusplus
+}
+#endif
+
+#endif
