@@ -1,5 +1,5 @@
 -- A run over a sentence, of a book or of a table.
-use Prim.Native.Nat.{ℕ, max}
+use Prim.Native.Nat.{ℕ, _+_, _≤_, max}
 use mathlib.Core.Path.{_≡_}
 use mathlib.Core.Bool.{true, false}
 use mathlib.Core.List.{List, [], _∷_, _++_}
@@ -48,3 +48,8 @@ pub record Wrote (made sentence before after : List ℕ) (changes : ℕ) : Type 
 pub record Ran (outcome : Outcome (List ℕ)) (sentence before after : List ℕ) (answer : RunAnswer) : Type 0 where
   pub answered : runOutcome answer ≡ changed sentence outcome
   pub wrote : after ≡ written outcome before
+
+-- so many places from one place up to another differ
+pub record Counted (a b : List ℕ) (from to n : ℕ) : Type 0 where
+  pub sum : n + differences (drop to a) (drop to b) ≡ differences (drop from a) (drop from b)
+  pub few : n + from ≤ to

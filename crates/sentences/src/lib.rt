@@ -1,11 +1,11 @@
 // What the runs of books and of tables share: a sentence's refusals, the copy and the count of changed tags.
 use answers::Refusal;
 ghost use mathlib.Core.Path.{_≡_};
-ghost use Prim.Native.Nat.{ℕ, _≤_};
+ghost use Prim.Native.Nat.{ℕ, _+_, _≤_, min};
 ghost use mathlib.Core.List.{List, _++_};
 ghost use lib.ListN.{length, drop};
 ghost use Rattle.words.specs.Word.{differences};
-ghost use Rattle.sentences.specs.Run.{highest, run};
+ghost use Rattle.sentences.specs.Run.{highest, run, Counted};
 ghost use Rattle.sentences.specs.Admission.{admission};
 
 pub enum Admission {
@@ -57,6 +57,30 @@ pub fn copy(sentence: &[u8], out: &mut [u8])
     }
 }
 
+// The number of places from one place up to another, not far behind, at which two words differ. A sum of bytes can be taken of many
+// places at once.
+fn count_near(a: &[u8], b: &[u8], from: usize, to: usize) -> usize
+    requires { ⌜ length (now a) ≡ length (now b) ⌝ }
+    requires { ⌜ (from ≤ to) × (to ≤ length (now a)) × (to ≤ from + 192) ⌝ }
+    ensures { λ r. ⌜ Counted (now (a .entry)) (now (b .entry)) from to r ⌝ }
+{
+    let mut n = 0u8;
+    let mut i = from;
+    while i < to {
+        if a[i] != b[i] {
+            n += 1;
+        }
+        i += 1;
+    }
+    n as usize
+}
+
+fn lesser(a: usize, b: usize) -> usize
+    ensures { λ r. ⌜ r ≡ min a b ⌝ }
+{
+    if a < b { a } else { b }
+}
+
 // The number of places at which two words of one length differ.
 pub fn count_changes(a: &[u8], b: &[u8]) -> usize
     requires { ⌜ length (now a) ≡ length (now b) ⌝ }
@@ -65,10 +89,9 @@ pub fn count_changes(a: &[u8], b: &[u8]) -> usize
     let mut n = 0;
     let mut i = 0;
     while i < a.len() {
-        if a[i] != b[i] {
-            n += 1;
-        }
-        i += 1;
+        let to = i + lesser(192, a.len() - i);
+        n += count_near(a, b, i, to);
+        i = to;
     }
     n
 }

@@ -1,17 +1,18 @@
+-- `sentences::count_changes` meets its contract.
+use borrow.Author.Needs.{needs}
 use Prim.Native.Nat.{ℕ, _≤_, _-_, _+_}
 use native.Mathlib.Omega.{arith}
-use borrow.Author.Needs.{needs}
-use mathlib.Core.Logic.{⊎-elim}
 use mathlib.Core.Path.{_≡_}
 use mathlib.Core.List.{[]}
 use lib.ListN.{length, drop}
 use lib.Seq.{drop-length}
 use Rattle.words.specs.Word.{differences}
-use Rattle.sentences.proofs.Laws.{same-next, other-next}
 use Rattle.sentences.proofs.count_changes.Statement.{statement}
 use Rattle.sentences.proofs.count_changes.Tie as tie
 use Rattle.sentences.proofs.count_changes.Reads as reads
 use Rattle.sentences.proofs.count_changes.Lts as lts
+use Rattle.sentences.proofs.count_near.Reads as count-near-reads
+use Rattle.sentences.proofs.lesser.Reads as lesser-reads
 
 abbrev Inv-loop : tie.InvT-loop
 Inv-loop a b n₀ i₀ n i = (i ≤ length a) × (n ≤ i) × (n + differences (drop i a) (drop i b) ≡ differences a b)
@@ -19,45 +20,42 @@ Inv-loop a b n₀ i₀ n i = (i ≤ length a) × (n ≤ i) × (n + differences (
 abbrev μ-loop : tie.MeasureT-loop
 μ-loop a b n₀ i₀ n i = length a - i
 
--- src/lib.rt:67:5
+-- src/lib.rt:91:5
 loop-holds : tie.Need-loop-holds Inv-loop μ-loop
 loop-holds c = search needs
 
--- src/lib.rt:68:12
-shared-slice-read-if1 : tie.Need-shared-slice-read-if1 Inv-loop μ-loop
-shared-slice-read-if1 c = search needs
+-- src/lib.rt:92:34
+sub-lesser : tie.Need-sub-lesser Inv-loop μ-loop
+sub-lesser c = search needs
 
--- src/lib.rt:68:20
-shared-slice-read-if1-2 : tie.Need-shared-slice-read-if1-2 Inv-loop μ-loop
-shared-slice-read-if1-2 c = search needs
+-- src/lib.rt:92:22
+lesser-requires : tie.Need-lesser-requires Inv-loop μ-loop
+lesser-requires c κs = search needs
 
--- src/lib.rt:69:13
+-- src/lib.rt:92:18
+add-to : tie.Need-add-to Inv-loop μ-loop
+add-to c = search needs
+
+-- src/lib.rt:93:14
+count-near-requires : tie.Need-count-near-requires Inv-loop μ-loop
+count-near-requires c κs = search needs
+
+-- src/lib.rt:93:9
 add-n : tie.Need-add-n Inv-loop μ-loop
 add-n c = search needs
 
--- src/lib.rt:71:9
-add-i : tie.Need-add-i Inv-loop μ-loop
-add-i c = search needs
-
--- src/lib.rt:67:5
+-- src/lib.rt:91:5
 loop-less : tie.Need-loop-less Inv-loop μ-loop
 loop-less c = search needs
 
--- src/lib.rt:67:5
+-- src/lib.rt:91:5
 loop-again : tie.Need-loop-again Inv-loop μ-loop
-loop-again c =
-    let a = c .before .before .before .before .before .args .a .now in
-    let b = c .before .before .before .before .before .args .b .now in
-    let i = c .before .before .before .before .loop .i in
-    ⊎-elim
-    (λ w. omega (arith, other-next a b i (search needs) (search needs) (w .0 .taken)))
-    (λ w. omega (arith, same-next a b i (search needs) (search needs) (w .0 .left)))
-    (c .if1 .came)
+loop-again c = search needs
 
--- src/lib.rt:61:1
+-- src/lib.rt:85:1
 returns : tie.Need-returns Inv-loop μ-loop
 returns c =
-    let a = c .before .before .args .a .now in
+    let a = c .before .before .before .before .args .a .now in
     let e : c .before .loop .i ≡ length a = omega arith in
     let d : drop (c .before .loop .i) a ≡ [] = rw e (drop-length a) in
     omega (arith, rw d at (c .before .loop .inv .2))
@@ -69,10 +67,11 @@ count-changes-spec =
     Inv-loop
     μ-loop
     loop-holds
-    shared-slice-read-if1
-    shared-slice-read-if1-2
+    sub-lesser
+    lesser-requires
+    add-to
+    count-near-requires
     add-n
-    add-i
     loop-less
     loop-again
     returns)
