@@ -8,9 +8,9 @@ use mathlib.Core.List.{List}
 use Rattle.words.proofs.Word.{below-suc}
 use Rattle.transducers.proofs.Lower.{pigeonhole}
 use Rattle.workspace.specs.declared.Grid.{Grid}
-use Rattle.workspace.specs.Cells.{at, word, Sized, Kept, Spare, Entry, Got, Put}
+use Rattle.workspace.specs.Cells.{at, word, Sized, Kept, Spare, Entry, Got, Put, Cleared}
 use Rattle.workspace.proofs.Cells.{kept-none, kept-then, kept-wider, word-kept}
-use Rattle.compose.specs.Pairs.{pairOf, markOf, Pairs, Room, Grown, Unmarked, Entered, Leads}
+use Rattle.compose.specs.Pairs.{pairOf, markOf, Pairs, Room, Grown, Entered, Leads}
 
 module _ (g : Grid) (base total : ℕ) where
   -- the pairs are the same where the notes are
@@ -66,26 +66,10 @@ module _ (g : Grid) (base total : ℕ) where
           output-is = word-kept g P X Y (grown .kept) (base + i) a 1 (omega arith) (l .inside) (λ e h p. miss e p) ∙ l .output-is;
         }
 
-  -- one more unmarked pair
-  pub unmarked-start : (W : List ℕ) → Unmarked g W W base total 0
-  unmarked-start W = record { kept = kept-none g (Spare g base (base + total) 0 2) W; none = λ s h. absurd (omega arith) }
-
   spare : (W X : List ℕ) (q e v : ℕ) → q < total → e < 2 → Put g W X (base + q) (g .tags) e v → Kept g W X (Spare g base (base + total) 0 2)
   spare W X q e v h he p =
       kept-wider g (Spare g base (base + total) 0 2) (Entry (base + q) (g .tags) e) W X (p .kept)
       (λ r c f i. (omega (arith, i .0), omega (arith, i .0), i .1, omega arith, omega (arith, i .2)))
-
-  pub unmarked-next : (W X Y : List ℕ) (j : ℕ) → 8 ≤ g .depth → j < total → Unmarked g W X base total j → Put g X Y (base + j) (g .tags) 1 0
-      → Unmarked g W Y base total (j + 1)
-  unmarked-next W X Y j deep h m p =
-      record {
-        kept = kept-then g (Spare g base (base + total) 0 2) W X Y (m .kept) (spare X Y j 1 0 h (omega arith) p);
-        none = λ s hs. by s (below-suc s j (omega arith));
-      }
-    where
-      by : (s : ℕ) → (s < j) ⊎ (s ≡ j) → markOf g Y base s ≡ 0
-      by s (inl l) = p .kept .same (base + s) (g .tags) 1 (omega arith) (omega arith) (λ i. omega (arith, i .0)) ∙ m .none s l
-      by s (inr e) = ap (markOf g Y base) e ∙ p .here
 
   -- a pair that has no state gets the next one
   module _ (W : List ℕ) (len s : ℕ) (ok : Room g W base total) (p : Pairs g W base total len) (h : s < total) (none : markOf g W base s ≡ 0) where
@@ -173,10 +157,11 @@ module _ (g : Grid) (base total : ℕ) where
       record { grown = record { kept = kept-none g (Spare g base (base + total) 0 2) W; pairs = p; more = omega arith; old = λ i h. refl }; here = n }
 
   -- the first state is the pair of the first two
-  pub begun : (W X Y Z : List ℕ) → 0 < total → 8 ≤ g .depth → Unmarked g W X base total total → Put g X Y base (g .tags) 0 0 → Put g Y Z base (g .tags) 1 1
+  pub begun : (W X Y Z : List ℕ) → 0 < total → 8 ≤ g .depth → Cleared g W X base total 1 total → Put g X Y base (g .tags) 0 0 → Put g Y Z base (g .tags) 1 1
       → Kept g W Z (Spare g base (base + total) 0 2) × Pairs g Z base total 1
   begun W X Y Z some deep m p1 p2 = (
-    kept-then g (Spare g base (base + total) 0 2) W X Z (m .kept)
+    kept-then g (Spare g base (base + total) 0 2) W X Z
+        (kept-wider g (Spare g base (base + total) 0 2) (Spare g base (base + total) 1 2) W X (m .kept) (λ r c e i. (i .0, i .1, i .2, omega arith, i .4)))
         (kept-then g (Spare g base (base + total) 0 2) X Y Z (spare X Y 0 0 0 some (omega arith) (rw row p1)) (spare Y Z 0 1 1 some (omega arith) (rw row p2))),
     record {
       some = omega arith;
@@ -207,4 +192,4 @@ module _ (g : Grid) (base total : ℕ) where
           (n
           (p2 .kept .same (base + s) (g .tags) 1 (omega arith) (omega arith) (λ q. d (omega (arith, q .0)))
           ∙ p1 .kept .same (base + s) (g .tags) 1 (omega arith) (omega arith) (λ q. omega (arith, q .2))
-          ∙ m .none s h))
+          ∙ m .zero s h))

@@ -36,11 +36,6 @@ pub record Grown (P : ℕ → ℕ → ℕ → Type 0) (g : Grid) (W X : List ℕ
   pub more : len ≤ to
   pub old : (i : ℕ) → i < len → pairOf g X base i ≡ pairOf g W base i
 
--- no pair is marked below j
-pub record Unmarked (g : Grid) (W X : List ℕ) (base total j : ℕ) : Type 0 where
-  pub kept : Kept g W X (Spare g base (base + total) 0 2)
-  pub none : (s : ℕ) → s < j → markOf g X base s ≡ 0
-
 -- the pair s has a state
 pub record Entered (g : Grid) (W X : List ℕ) (base total len s to : ℕ) : Type 0 where
   pub grown : Grown (Spare g base (base + total) 0 2) g W X base total len to

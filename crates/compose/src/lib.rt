@@ -4,6 +4,7 @@
 use workspace::Grid;
 use workspace::append_word;
 use workspace::clear;
+use workspace::clear_notes;
 use workspace::get;
 use workspace::put;
 ghost use mathlib.Core.Path.{_≡_};
@@ -15,7 +16,7 @@ ghost use Rattle.transducers.specs.Compose.{product};
 ghost use Rattle.workspace.specs.Cells.{at, word, Kept, In-rows, Spare, Written};
 ghost use Rattle.workspace.specs.Holds.{tableAt, standing};
 ghost use Rattle.compose.specs.Runs.{Runs, Ran};
-ghost use Rattle.compose.specs.Pairs.{Pairs, Room, Unmarked, Entered, Step-paired, Steps-paired, Row-paired};
+ghost use Rattle.compose.specs.Pairs.{Pairs, Room, Entered, Step-paired, Steps-paired, Row-paired};
 ghost use Rattle.compose.specs.Composed.{Composable, Composed};
 
 // The transducer in m rows from `base` runs from its state q over the word at (r, c, s); what it puts out goes behind the word at
@@ -68,24 +69,13 @@ fn run_into(
     run_word(work, g, base, m, q, r, c, s, r2, c2, s2)
 }
 
-fn unmark(work: &mut [u16], g: Grid, base: usize, total: usize)
-    requires { ⌜ Room g (now work) base total ⌝ }
-    ensures { λ _. ⌜ Unmarked g (now (work .entry)) (now (work .exit)) base total total ⌝ }
-{
-    let mut s = 0;
-    while s < total {
-        put(work, g, base + s, g.tags, 1, 0);
-        s += 1;
-    }
-}
-
 // State 0, for the pair 0 of the first states.
 fn begin(work: &mut [u16], g: Grid, base: usize, total: usize)
     requires { ⌜ Room g (now work) base total ⌝ }
     requires { ⌜ 0 < total ⌝ }
     ensures { λ _. ⌜ Kept g (now (work .entry)) (now (work .exit)) (Spare g base (base + total) 0 2) × Pairs g (now (work .exit)) base total 1 ⌝ }
 {
-    unmark(work, g, base, total);
+    clear_notes(work, g, base, total, 1);
     put(work, g, base, g.tags, 0, 0);
     put(work, g, base, g.tags, 1, 1);
 }

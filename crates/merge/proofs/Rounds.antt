@@ -16,13 +16,13 @@ use Rattle.transducers.specs.Tabulate.{tabulate}
 use Rattle.transducers.specs.Merge.{Classes, class, classes}
 use Rattle.transducers.proofs.Merge.{coarse-refined, classes-any}
 use Rattle.workspace.specs.declared.Grid.{Grid}
-use Rattle.workspace.specs.Cells.{at, Kept, Entry, Spare, Put, Got}
+use Rattle.workspace.specs.Cells.{at, Kept, Entry, Spare, Put, Got, Cleared}
 use Rattle.workspace.specs.Holds.{Ready, tableAt, standing}
 use Rattle.workspace.proofs.Cells.{kept-none, kept-then, kept-wider, tabulate-same}
 use Rattle.workspace.proofs.Holds.{length-at}
 use Rattle.workspace.proofs.Views.{in-table, next-below, same-table, ready-kept}
 use Rattle.workspace.proofs.Falls.{total-falls}
-use Rattle.merge.specs.Classes.{classOf, newOf, linkOf, Words, Nexts, Key, Part, Parted, Placed, Differs, Taken, Round, Alone, Merged}
+use Rattle.merge.specs.Classes.{classOf, newOf, linkOf, Words, Nexts, Key, Part, Parted, Placed, Differs, Taken, Round, Merged}
 use Rattle.merge.proofs.Keys.{words-sym, words-trans, key-refl, key-sym, key-trans, class-same, key-on, key-back, part-on}
 
 -- ---- the new classes are taken over
@@ -78,21 +78,8 @@ module _ (g : Grid) (W : List ℕ) (base n : ℕ) (ok : Ready g W base n) where
       rest down o (inl lt) = t .rests (down .0) o lt
       rest down o (inr e) = rw e (sym is-d ∙ down .1 ∙ is-c)
 
-  pub alone-start : Alone g W W base n 0
-  alone-start = record { kept = kept-none g (Spare g base (base + n) 1 2) W; zero = λ q h. absurd (omega arith) }
-
-  pub alone-next : (X Y : List ℕ) (q : ℕ) → q < n → Alone g W X base n q → Put g X Y (base + q) (g .tags) 1 0 → Alone g W Y base n (q + 1)
-  alone-next X Y q h t p =
-      record {
-        kept = kept-then g (Spare g base (base + n) 1 2) W X Y (t .kept) (wider X Y q 0 h p);
-        zero = λ o ho. go o (below-suc o q (omega arith));
-      }
-    where
-      go : (o : ℕ) → (o < q) ⊎ (o ≡ q) → classOf g Y base o ≡ 0
-      go o (inl lt) = elsewhere X Y q 0 o p (λ e. omega arith) ∙ t .zero o lt
-      go o (inr e) = rw e (p .here)
-
-  pub part-alone : Early (g .tags) (standing g W base n) → (X : List ℕ) → Alone g W X base n n → Part g X base n
+  -- all states in class 0
+  pub part-alone : Early (g .tags) (standing g W base n) → (X : List ℕ) → Cleared g W X base n 1 n → Part g X base n
   part-alone early X t =
       let some : 0 < n = omega (arith, ok .sound .some, length-at g W base n) in
       record {

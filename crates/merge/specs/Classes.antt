@@ -105,11 +105,6 @@ pub record Differs (changed : Bool) (c d : ℕ) (r : Bool) : Type 0 where
   pub up : r ≡ true → (changed ≡ true) ⊎ (c ≡ d → ⊥)
   pub down : r ≡ false → (changed ≡ false) × (c ≡ d)
 
--- all states below i are in class 0
-pub record Alone (g : Grid) (W X : List ℕ) (base n i : ℕ) : Type 0 where
-  pub kept : Kept g W X (Spare g base (base + n) 1 2)
-  pub zero : (q : ℕ) → q < i → classOf g X base q ≡ 0
-
 -- a round: the classes are split, or rest
 pub record Round (g : Grid) (W X : List ℕ) (base n : ℕ) (first changed : Bool) : Type 0 where
   pub kept : Kept g W X (Spare g base (base + n) 1 4)

@@ -3,6 +3,7 @@
 // which are those of the new classes within its old one.
 // The idea is Moore's: states are told apart by what they put out at a step, then by where the step leads, until no class splits.
 use workspace::Grid;
+use workspace::clear_notes;
 use workspace::get;
 use workspace::put;
 use workspace::same_words;
@@ -12,7 +13,7 @@ ghost use mathlib.Core.Bool.{true, false};
 ghost use Rattle.workspace.specs.Cells.{Decides, Kept, Spare};
 ghost use Rattle.workspace.specs.Holds.{Ready, standing};
 ghost use Rattle.transducers.specs.Canonical.{Early};
-ghost use Rattle.merge.specs.Classes.{classOf, newOf, Words, Nexts, Key, Part, Parted, Found, Placed, Named, Differs, Taken, Round, Alone, Merged};
+ghost use Rattle.merge.specs.Classes.{classOf, newOf, Words, Nexts, Key, Part, Parted, Found, Placed, Named, Differs, Taken, Round, Merged};
 
 pub struct Walked {
     pub at: usize,
@@ -167,24 +168,13 @@ fn round(work: &mut [u16], g: Grid, base: usize, n: usize, first: bool) -> bool
     take_over(work, g, base, n)
 }
 
-fn start_classes(work: &mut [u16], g: Grid, base: usize, n: usize)
-    requires { ⌜ Ready g (now work) base n ⌝ }
-    ensures { λ _. ⌜ Alone g (now (work .entry)) (now (work .exit)) base n n ⌝ }
-{
-    let mut q = 0;
-    while q < n {
-        put(work, g, base + q, g.tags, 1, 0);
-        q += 1;
-    }
-}
-
 // The classes of the n states in the rows from `base`, each in entry 1 of its row's last cell.
 pub fn merge(work: &mut [u16], g: Grid, base: usize, n: usize)
     requires { ⌜ Ready g (now work) base n ⌝ }
     requires { ⌜ Early (g .tags) (standing g (now work) base n) ⌝ }
     ensures { λ _. ⌜ Merged g (now (work .entry)) (now (work .exit)) base n ⌝ }
 {
-    start_classes(work, g, base, n);
+    clear_notes(work, g, base, n, 1);
     round(work, g, base, n, true);
     let mut going = true;
     while going {

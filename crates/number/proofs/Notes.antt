@@ -20,11 +20,11 @@ use Rattle.transducers.proofs.Tabulate.{length-tabulate, at-tabulate, length-ta
 use Rattle.transducers.proofs.Merge.{classes-are, doing-merge}
 use Rattle.transducers.proofs.Number.{noteAll-length, visit-kept, order-below, order-length}
 use Rattle.workspace.specs.declared.Grid.{Grid}
-use Rattle.workspace.specs.Cells.{at, Kept, Spare, Entry, Got, Put}
+use Rattle.workspace.specs.Cells.{at, Kept, Spare, Entry, Got, Put, Cleared}
 use Rattle.workspace.specs.Holds.{Holds, tableAt, standing}
 use Rattle.workspace.proofs.Cells.{kept-none, kept-then, kept-wider, sized-kept}
 use Rattle.workspace.proofs.Holds.{holds-kept, table-at, length-at}
-use Rattle.number.specs.Order.{Classed, mergedAt, listed, mark, Marked, Lists, Lists-room, Clearing}
+use Rattle.number.specs.Order.{Classed, mergedAt, listed, mark, Marked, Lists, Lists-room}
 use Rattle.number.proofs.Lists.{note-old, note-new, mark-new, mark-other, mark-start, noteAll-next, noteAll-end, visit-next, visit-end}
 
 module _ (g : Grid) (base : ℕ) where
@@ -225,28 +225,14 @@ module _ (g : Grid) (base n : ℕ) where
         let is : listed g X base to ≡ goal = sym (noteAll-end (row (mergedAt g W base n) q .steps) (listed g X base to) a (omega (arith, long))) ∙ m .rest in
         record { kept = m .kept; is = is; marked = rw is at (m .marked); low = m .low }
 
-  -- no state is marked
-  pub clearing-start : (W : List ℕ) → Clearing g W W base n 0
-  clearing-start W = record { kept = kept-none g (Spare g base (base + n) 4 6) W; is = λ q h. absurd (omega arith) }
-
-  pub clearing-next : (W X Y : List ℕ) (j : ℕ) → 8 ≤ g .depth → j < n → Clearing g W X base n j → Put g X Y (base + j) (g .tags) 5 0 → Clearing g W Y base n (j + 1)
-  clearing-next W X Y j deep hj c p =
-      record {
-        kept = kept-then g (Spare g base (base + n) 4 6) W X Y (c .kept) (spare-put X Y j 5 0 hj (omega arith) (omega arith) p);
-        is = λ q h. go q (below-suc q j (omega arith));
-      }
-    where
-      go : (q : ℕ) → (q < j) ⊎ (q ≡ j) → at g Y (base + q) (g .tags) 5 ≡ 0
-      go q (inl h) = p .kept .same (base + q) (g .tags) 5 (omega arith) (omega arith) (λ i. omega (arith, i .0)) ∙ c .is q h
-      go q (inr e) = rw e (p .here)
-
   -- the list of state 0
-  pub begun : (W X Y Z : List ℕ) → Classed g W base n → Clearing g W X base n n → Put g X Y base (g .tags) 4 0 → Put g Y Z base (g .tags) 5 1
+  pub begun : (W X Y Z : List ℕ) → Classed g W base n → Cleared g W X base n 5 n → Put g X Y base (g .tags) 4 0 → Put g Y Z base (g .tags) 5 1
       → Lists g W Z base n (0 ∷ []) 1
   begun W X Y Z ok c p0 p20 =
       record {
         kept =
-            kept-then g (Spare g base (base + n) 4 6) W X Z (c .kept)
+            kept-then g (Spare g base (base + n) 4 6) W X Z
+            (kept-wider g (Spare g base (base + n) 4 6) (Spare g base (base + n) 5 6) W X (c .kept) (λ r' c' e' i. (i .0, i .1, i .2, omega (arith, i .3), i .4)))
             (kept-then g (Spare g base (base + n) 4 6) X Y Z (spare-put X Y 0 4 0 some (omega arith) (omega arith) p) (spare-put Y Z 0 5 1 some (omega arith) (omega arith) p2));
         is = ext-getD 0 (listed g Z base 1) (0 ∷ []) (listed-length g base Z 1) (λ i lt. member i (omega (arith, listed-length g base Z 1)));
         marked = record { marks = λ x hx. marks x hx (ℕ-discrete x 0) };
@@ -277,7 +263,7 @@ module _ (g : Grid) (base n : ℕ) where
       marks x hx (no other) =
           p2 .kept .same (base + x) (g .tags) 5 (omega arith) (omega (arith, ok .deep)) (λ e. other (omega (arith, e .0)))
           ∙ p .kept .same (base + x) (g .tags) 5 (omega arith) (omega (arith, ok .deep)) (λ e. omega (arith, e .2))
-          ∙ c .is x hx
+          ∙ c .zero x hx
           ∙ sym (mark-start x other)
 
   -- the search: the members before the i-th have had their next states put behind the list

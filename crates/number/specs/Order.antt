@@ -54,8 +54,3 @@ pub record Lists-room (g : Grid) (W : List ℕ) (base n len : ℕ) (l : List ℕ
   pub marked : Marked g W base n (listed g W base len)
   pub some : len ≤ n
   pub room : length l ≤ n
-
--- no state below j is marked
-pub record Clearing (g : Grid) (W X : List ℕ) (base n j : ℕ) : Type 0 where
-  pub kept : Kept g W X (Spare g base (base + n) 4 6)
-  pub is : (q : ℕ) → q < j → at g X (base + q) (g .tags) 5 ≡ 0

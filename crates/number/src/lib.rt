@@ -4,6 +4,7 @@
 use workspace::Grid;
 use workspace::append_word;
 use workspace::clear;
+use workspace::clear_notes;
 use workspace::get;
 use workspace::put;
 ghost use mathlib.Core.Path.{_≡_};
@@ -14,19 +15,8 @@ ghost use Rattle.transducers.specs.Table.{row, shape};
 ghost use Rattle.transducers.specs.Number.{place, note, noteAll, order};
 ghost use Rattle.workspace.specs.Cells.{at, word, Sized, Inner, Kept, Spare, Written};
 ghost use Rattle.workspace.specs.Holds.{Stepped, Stepping, Rowed, Filling};
-ghost use Rattle.number.specs.Order.{Classed, mergedAt, listed, Marked, Lists, Lists-room, Clearing};
+ghost use Rattle.number.specs.Order.{Classed, mergedAt, listed, Marked, Lists, Lists-room};
 ghost use Rattle.number.specs.Numbering.{Ordered, numberedAt, Rowing, Numbered};
-
-fn unmark(work: &mut [u16], g: Grid, base: usize, n: usize)
-    requires { ⌜ Classed g (now work) base n ⌝ }
-    ensures { λ _. ⌜ Clearing g (now (work .entry)) (now (work .exit)) base n n ⌝ }
-{
-    let mut q = 0;
-    while q < n {
-        put(work, g, base + q, g.tags, 5, 0);
-        q += 1;
-    }
-}
 
 // s is put behind the list of so many states if it is not there.
 fn add(work: &mut [u16], g: Grid, base: usize, n: usize, len: usize, s: usize) -> usize
@@ -75,7 +65,7 @@ fn begin(work: &mut [u16], g: Grid, base: usize, n: usize)
     requires { ⌜ Classed g (now work) base n ⌝ }
     ensures { λ _. ⌜ Lists g (now (work .entry)) (now (work .exit)) base n (0 ∷ []) 1 ⌝ }
 {
-    unmark(work, g, base, n);
+    clear_notes(work, g, base, n, 5);
     put(work, g, base, g.tags, 4, 0);
     put(work, g, base, g.tags, 5, 1);
 }

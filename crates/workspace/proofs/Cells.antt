@@ -7,8 +7,10 @@ use native.Mathlib.Decide.{decLe, ℕ-discrete}
 use borrow.Author.Tests.{eq-eqb, ne-eqb, eqb-true, eqb-false}
 use lib.Dec.{eqb}
 use mathlib.Core.Bool.{Bool, true, false}
+use Rattle.words.proofs.Word.{below-suc}
 use Rattle.words.proofs.Front.{begins-refl, begins-length, begins-whole, meet-left, meet-right, meet-greatest}
 use mathlib.Core.Path.{_≡_, refl, sym, ap, ap₂, _∙_, subst}
+use mathlib.Core.Logic.{_⊎_, inl, inr}
 use mathlib.Core.List.{List, [], _∷_, _++_, append-assoc, append-nil}
 use lib.ListN.{length, getD, set, take, drop, length-append, length-set, length-drop, drop-of-length-le}
 use lib.Seq.{ext-getD, getD-set-same, getD-set-other, getD-take, getD-drop, drop-cons, length-take-le, take-all}
@@ -16,7 +18,7 @@ use Rattle.words.specs.Front.{meet}
 use Rattle.transducers.specs.Tabulate.{tabulate}
 use Rattle.transducers.proofs.Tabulate.{length-tabulate, getD-tabulate}
 use Rattle.workspace.specs.declared.Grid.{Grid}
-use Rattle.workspace.specs.Cells.{ix, at, write, word, Sized, In, Inner, Kept, Entry, Cell, Got, Put, Written, part, Decides}
+use Rattle.workspace.specs.Cells.{ix, at, write, word, Sized, In, Inner, Kept, Entry, Cell, Spare, Got, Put, Cleared, Written, part, Decides}
 
 -- places in the slice
 
@@ -101,6 +103,25 @@ module _ (g : Grid) (P : ℕ → ℕ → ℕ → Type 0) where
 
   pub kept-wider : (Q : ℕ → ℕ → ℕ → Type 0) (W X : List ℕ) → Kept g W X Q → ((r c e : ℕ) → Q r c e → P r c e) → Kept g W X P
   kept-wider Q W X a more = record { long = a .long; same = λ r c e hc he out. a .same r c e hc he (λ p. out (more r c e p)) }
+
+-- one more row's entry is zero
+module _ (g : Grid) (base n e : ℕ) where
+  pub cleared-start : (W : List ℕ) → Cleared g W W base n e 0
+  cleared-start W = record { kept = kept-none g (Spare g base (base + n) e (e + 1)) W; zero = λ q h. absurd (omega arith) }
+
+  pub cleared-next : (W X Y : List ℕ) (j : ℕ) → e < g .depth → j < n → Cleared g W X base n e j → Put g X Y (base + j) (g .tags) e 0 → Cleared g W Y base n e (j + 1)
+  cleared-next W X Y j deep h c p =
+      record {
+        kept =
+            kept-then g (Spare g base (base + n) e (e + 1)) W X Y (c .kept)
+            (kept-wider g (Spare g base (base + n) e (e + 1)) (Entry (base + j) (g .tags) e) X Y (p .kept)
+            (λ r' c' e' i. (omega (arith, i .0), omega (arith, i .0), i .1, omega (arith, i .2), omega (arith, i .2))));
+        zero = λ q hq. by q (below-suc q j (omega arith));
+      }
+    where
+      by : (q : ℕ) → (q < j) ⊎ (q ≡ j) → at g Y (base + q) (g .tags) e ≡ 0
+      by q (inl l) = p .kept .same (base + q) (g .tags) e (omega arith) deep (λ i. omega (arith, i .0)) ∙ c .zero q l
+      by q (inr i) = ap (λ (r : ℕ). at g Y (base + r) (g .tags) e) i ∙ p .here
 
 pub sized-kept : (g : Grid) (W X : List ℕ) → Sized g W → length X ≡ length W → Sized g X
 sized-kept g W X s e = record { room = omega (arith, s .room); rows-small = s .rows-small; tags-small = s .tags-small; depth-small = s .depth-small }

@@ -67,6 +67,11 @@ pub record Put (g : Grid) (W X : List ℕ) (r c e v : ℕ) : Type 0 where
   pub kept : Kept g W X (Entry r c e)
   pub here : at g X r c e ≡ v
 
+-- entry e of n rows' last cells is zero, as far as the row j
+pub record Cleared (g : Grid) (W X : List ℕ) (base n e j : ℕ) : Type 0 where
+  pub kept : Kept g W X (Spare g base (base + n) e (e + 1))
+  pub zero : (q : ℕ) → q < j → at g X (base + q) (g .tags) e ≡ 0
+
 -- a cell has another word
 pub record Written (g : Grid) (W X : List ℕ) (r c s : ℕ) (w : List ℕ) : Type 0 where
   pub kept : Kept g W X (Cell r c s)

@@ -5,7 +5,7 @@ ghost use mathlib.Core.List.{List, [], _∷_, _++_};
 ghost use mathlib.Core.Bool.{true, false};
 ghost use lib.ListN.{length, drop, take};
 ghost use Rattle.words.specs.Front.{meet};
-ghost use Rattle.workspace.specs.Cells.{ix, at, word, Sized, In, Inner, Got, Put, Written, part, Decides};
+ghost use Rattle.workspace.specs.Cells.{ix, at, word, Sized, In, Inner, Got, Put, Cleared, Written, part, Decides};
 
 // Each row has a cell for every tag and one more.
 pub struct Grid {
@@ -51,6 +51,19 @@ pub fn put(work: &mut [u16], g: Grid, r: usize, c: usize, e: usize, v: usize)
 {
     let i = index_of(g, r, c, e);
     work[i] = v as u16;
+}
+
+// Entry e of n rows' last cells becomes zero.
+pub fn clear_notes(work: &mut [u16], g: Grid, base: usize, n: usize, e: usize)
+    requires { ⌜ Sized g (now work) ⌝ }
+    requires { ⌜ (base + n ≤ g .rows) × (e < g .depth) ⌝ }
+    ensures { λ _. ⌜ Cleared g (now (work .entry)) (now (work .exit)) base n e n ⌝ }
+{
+    let mut q = 0;
+    while q < n {
+        put(work, g, base + q, g.tags, e, 0);
+        q += 1;
+    }
 }
 
 // No tag at s.

@@ -5,12 +5,12 @@ use Rattle.compose.proofs.begin.Statement.{statement}
 use Rattle.compose.proofs.begin.Tie as tie
 use Rattle.compose.proofs.begin.Reads as reads
 use Rattle.compose.proofs.begin.Lts as lts
-use Rattle.compose.proofs.unmark.Reads as unmark-reads
+use Rattle.workspace.proofs.clear_notes.Reads as clear-notes-reads
 use Rattle.workspace.proofs.put.Reads as put-reads
 
 -- src/lib.rt:88:5
-unmark-requires : tie.Need-unmark-requires
-unmark-requires c κs = search needs
+clear-notes-requires : tie.Need-clear-notes-requires
+clear-notes-requires c κs = search needs
 
 -- src/lib.rt:89:5
 put-requires : tie.Need-put-requires
@@ -28,7 +28,7 @@ same-length c = search needs
 returns : tie.Need-returns
 returns c =
     let st = c .before .before .before .before .before .before .before .before .before .before .before .before .before in
-    begun (st .args .g) _ _ _ _ _ _ (st .pre .1) (st .pre .0 .deep) (c .before .before .before .before .before .before .before .before .before .before .unmark .ensures) (c .before .before .before .before .before .before .put .ensures) (c .before .before .put2 .ensures)
+    begun (st .args .g) _ _ _ _ _ _ (st .pre .1) (st .pre .0 .deep) (c .before .before .before .before .before .before .before .before .before .before .clear-notes .ensures) (c .before .before .before .before .before .before .put .ensures) (c .before .before .put2 .ensures)
 
 pub begin-spec : {M : Type 1} → statement M
-begin-spec = tie.close (tie.spec unmark-requires put-requires put-requires-2 same-length returns)
+begin-spec = tie.close (tie.spec clear-notes-requires put-requires put-requires-2 same-length returns)

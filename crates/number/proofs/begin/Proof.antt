@@ -4,11 +4,11 @@ use Rattle.number.proofs.begin.Statement.{statement}
 use Rattle.number.proofs.begin.Tie as tie
 use Rattle.number.proofs.begin.Reads as reads
 use Rattle.number.proofs.begin.Lts as lts
-use Rattle.number.proofs.unmark.Reads as unmark-reads
+use Rattle.workspace.proofs.clear_notes.Reads as clear-notes-reads
 use Rattle.workspace.proofs.put.Reads as put-reads
 
-unmark-requires : tie.Need-unmark-requires
-unmark-requires c κs = search needs
+clear-notes-requires : tie.Need-clear-notes-requires
+clear-notes-requires c κs = search needs
 
 put-requires : tie.Need-put-requires
 put-requires c κs = search needs
@@ -23,7 +23,7 @@ returns : tie.Need-returns
 returns c =
     let st = c .before .before .before .before .before .before .before .before .before .before .before .before .before in
     let a = st .args in
-    begun (a .g) _ _ _ _ _ _ (st .pre) (c .before .before .before .before .before .before .before .before .before .before .unmark .ensures) (c .before .before .before .before .before .before .put .ensures) (c .before .before .put2 .ensures)
+    begun (a .g) _ _ _ _ _ _ (st .pre) (c .before .before .before .before .before .before .before .before .before .before .clear-notes .ensures) (c .before .before .before .before .before .before .put .ensures) (c .before .before .put2 .ensures)
 
 pub begin-spec : {M : Type 1} → statement M
-begin-spec = tie.close (tie.spec unmark-requires put-requires put-requires-2 same-length returns)
+begin-spec = tie.close (tie.spec clear-notes-requires put-requires put-requires-2 same-length returns)
