@@ -36,14 +36,6 @@ compose-requires c κs =
     let w = c .before .before .before .write-rule in
     composable (st .args .g) (st .args .work .now) (st .args .n) (st .args .ceiling) (the-rule st) (st .pre) _ (w .ensures .0) (w .ensures .1)
 
--- src/lib.rt:26:5
-normalize-requires : tie.Need-normalize-requires
-normalize-requires c κs =
-    let st = c .before .before .before .before .before .before .before .before .before .before .before in
-    let w = c .before .before .before .before .before .before .before .write-rule in
-    let d = c .before .before .before .compose in
-    ready-composed (st .args .g) (st .args .work .now) (st .args .n) (st .args .ceiling) (the-rule st) (st .pre) _ (w .ensures .0) (w .ensures .1) _ _ (d .ensures .0) (d .ensures .1)
-
 -- src/lib.rt:27:5
 merge-requires : tie.Need-merge-requires
 merge-requires c κs =
@@ -52,6 +44,14 @@ merge-requires c κs =
     let d = c .before .before .before .before .before .before .before .compose in
     let e = c .before .before .before .normalize in
     (ready-normalized (st .args .g) (st .args .work .now) (st .args .n) (st .args .ceiling) (the-rule st) (st .pre) _ (w .ensures .0) (w .ensures .1) _ _ (d .ensures .0) (d .ensures .1) _ (e .ensures), early-normalized (st .args .g) (st .args .work .now) (st .args .n) (st .args .ceiling) (the-rule st) (st .pre) _ (w .ensures .0) (w .ensures .1) _ _ (d .ensures .0) (d .ensures .1) _ (e .ensures))
+
+-- src/lib.rt:26:5
+normalize-requires : tie.Need-normalize-requires
+normalize-requires c κs =
+    let st = c .before .before .before .before .before .before .before .before .before .before .before in
+    let w = c .before .before .before .before .before .before .before .write-rule in
+    let d = c .before .before .before .compose in
+    ready-composed (st .args .g) (st .args .work .now) (st .args .n) (st .args .ceiling) (the-rule st) (st .pre) _ (w .ensures .0) (w .ensures .1) _ _ (d .ensures .0) (d .ensures .1)
 
 -- src/lib.rt:28:5
 number-requires : tie.Need-number-requires

@@ -1,4 +1,5 @@
 -- `nedzsuka::pack_refusal` meets its contract.
+use native.Mathlib.Omega.{arith}
 use borrow.Author.Needs.{needs}
 use Prim.Native.Nat.{ℕ}
 use mathlib.Core.Path.{_≡_, sym, ap, _∙_, subst}
@@ -25,7 +26,8 @@ enum-known-given-2 c = search needs
 
 -- src/lib.rt:30:45
 pack-requires-2 : tie.Need-pack-requires-2
-pack-requires-2 c κs = subst (λ (r : Refusal). Fits (refusal {A = ℕ} r)) (c .before .given2 .given .1) (c .before .before .before .pre)
+pack-requires-2 c κs =
+    omega (arith, subst (λ (r : Refusal). Fits (refusal {A = ℕ} r)) (c .before .given2 .given .1) (c .before .before .before .pre))
 
 -- src/lib.rt:31:25
 enum-known-given-3 : tie.Need-enum-known-given-3

@@ -37,6 +37,20 @@ shared-slice-read-first c = search needs
 loop-holds : tie.Need-loop-holds Inv-loop μ-loop
 loop-holds c = (omega arith, refl, refl, refl)
 
+-- src/lib.rt:47:5
+loop-again : tie.Need-loop-again Inv-loop μ-loop
+loop-again c =
+    let a = c .before .before .before .before .before .before .before .before .args in
+    let l = c .before .before .before .loop in (
+      omega arith,
+      l .inv .1,
+      l .inv .2,
+      ⊎-elim
+          (λ w. not-here (a .u .now) (a .s .now) (l .s) (a .p) (a .tag) (l .i) (l .inv .1) (l .inv .3) (omega arith) (omega arith) (w .2 .result) (w .2 .ensures) (w .3 .left))
+          (λ w. not-first (a .u .now) (a .s .now) (l .s) (a .p) (a .tag) (l .i) (l .inv .1) (l .inv .3) (omega arith) (omega arith) (w .left))
+          (c .if2 .came),
+    )
+
 -- src/lib.rt:48:12
 slice-read-if2 : tie.Need-slice-read-if2 Inv-loop μ-loop
 slice-read-if2 c = omega arith
@@ -71,20 +85,6 @@ add-i c = omega arith
 -- src/lib.rt:47:5
 loop-less : tie.Need-loop-less Inv-loop μ-loop
 loop-less c = omega arith
-
--- src/lib.rt:47:5
-loop-again : tie.Need-loop-again Inv-loop μ-loop
-loop-again c =
-    let a = c .before .before .before .before .before .before .before .before .args in
-    let l = c .before .before .before .loop in (
-      omega arith,
-      l .inv .1,
-      l .inv .2,
-      ⊎-elim
-          (λ w. not-here (a .u .now) (a .s .now) (l .s) (a .p) (a .tag) (l .i) (l .inv .1) (l .inv .3) (omega arith) (omega arith) (w .2 .result) (w .2 .ensures) (w .3 .left))
-          (λ w. not-first (a .u .now) (a .s .now) (l .s) (a .p) (a .tag) (l .i) (l .inv .1) (l .inv .3) (omega arith) (omega arith) (w .left))
-          (c .if2 .came),
-    )
 
 -- src/lib.rt:36:1
 same-length-2 : tie.Need-same-length-2 Inv-loop μ-loop
