@@ -13,7 +13,7 @@
      beyond the result keeps its bytes.
    - The other slices are only read, the work slice of compile excepted.
    - It allocates nothing and keeps nothing from one call to the next: several threads may call at once, each with output and work
-     slices of its own.
+     slices of its own. nedzsuka_run_table takes some 101,000 bytes of the stack whatever the table, the other two less than 2,000.
 
    What is asked of the caller
    - A pointer reaches as many entries as the length beside it says. It may be null only where that length is 0.
