@@ -16,7 +16,7 @@ use Rattle.transducers.specs.Tabulate.{tabulate}
 use Rattle.transducers.specs.Merge.{Classes, class, classes}
 use Rattle.transducers.proofs.Merge.{coarse-refined, classes-any}
 use Rattle.workspace.specs.declared.Grid.{Grid}
-use Rattle.workspace.specs.Cells.{at, Kept, Entry, Spare, Put, Got, Cleared}
+use Rattle.workspace.specs.Cells.{at, Kept, Entry, Spare, Put, Got}
 use Rattle.workspace.specs.Holds.{Ready, tableAt, standing}
 use Rattle.workspace.proofs.Cells.{kept-none, kept-then, kept-wider, tabulate-same}
 use Rattle.workspace.proofs.Holds.{length-at}
@@ -77,18 +77,6 @@ module _ (g : Grid) (W : List ℕ) (base n : ℕ) (ok : Ready g W base n) where
       rest : (old ≡ false) × (d ≡ c) → (o : ℕ) → (o < q) ⊎ (o ≡ q) → newOf g W base o ≡ classOf g W base o
       rest down o (inl lt) = t .rests (down .0) o lt
       rest down o (inr e) = rw e (sym is-d ∙ down .1 ∙ is-c)
-
-  -- all states in class 0
-  pub part-alone : Early (g .tags) (standing g W base n) → (X : List ℕ) → Cleared g W X base n 1 n → Part g X base n
-  part-alone early X t =
-      let some : 0 < n = omega (arith, ok .sound .some, length-at g W base n) in
-      record {
-        ready = ready-kept g W base n ok X 1 2 (omega arith) (t .kept);
-        early = rw (same-table g W base n ok X 1 2 (omega arith) (t .kept)) early;
-        low = λ q h. omega (arith, t .zero q h);
-        own = λ q h. ap (classOf g X base) (t .zero q h) ∙ t .zero 0 some ∙ sym (t .zero q h);
-        coarse = λ p q hp hq e. t .zero p hp ∙ sym (t .zero q hq);
-      }
 
 -- ---- a round
 

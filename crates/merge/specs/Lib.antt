@@ -1,2 +1,3 @@
 -- Merging in the work slice.
 pub mod Classes
+pub mod Seats

@@ -13,6 +13,7 @@ ghost use mathlib.Core.Bool.{true, false};
 ghost use Rattle.workspace.specs.Cells.{Decides, Kept, Spare};
 ghost use Rattle.workspace.specs.Holds.{Ready, standing};
 ghost use Rattle.transducers.specs.Canonical.{Early};
+ghost use Rattle.merge.specs.Seats.{digest, Seating, Seated};
 ghost use Rattle.merge.specs.Classes.{classOf, newOf, Words, Nexts, Key, Part, Parted, Found, Placed, Named, Differs, Taken, Round, Merged};
 
 pub struct Walked {
@@ -168,13 +169,65 @@ fn round(work: &mut [u16], g: Grid, base: usize, n: usize, first: bool) -> bool
     take_over(work, g, base, n)
 }
 
+// A number made of the lengths of q's words.
+fn digest_of(work: &[u16], g: Grid, base: usize, n: usize, q: usize) -> usize
+    requires { ⌜ Ready g (now work) base n ⌝ }
+    requires { ⌜ q < n ⌝ }
+    ensures { λ h. ⌜ h ≡ digest g (now (work .entry)) base q ⌝ }
+{
+    let tags = g.tags;
+    let mut h = get(work, g, base + q, tags, 7);
+    let mut a = 0;
+    while a < tags {
+        h = (h * 31 + get(work, g, base + q, a, 1)) % 0x10000;
+        a += 1;
+    }
+    h
+}
+
+// The class of q: the first state of its bucket.
+fn seat(work: &mut [u16], g: Grid, base: usize, n: usize, q: usize)
+    requires { ⌜ Seating g (now work) base n q ⌝ }
+    requires { ⌜ q < n ⌝ }
+    ensures { λ _. ⌜ Seated g (now (work .entry)) (now (work .exit)) base n (q + 1) ⌝ }
+{
+    let b = digest_of(work, g, base, n, q) % n;
+    let head = get(work, g, base + b, g.tags, 2);
+    if head != 0 {
+        put(work, g, base + q, g.tags, 1, head - 1);
+        return;
+    }
+    put(work, g, base + b, g.tags, 2, q + 1);
+    put(work, g, base + q, g.tags, 1, q);
+}
+
+fn seat_all(work: &mut [u16], g: Grid, base: usize, n: usize)
+    requires { ⌜ Seating g (now work) base n 0 ⌝ }
+    ensures { λ _. ⌜ Seated g (now (work .entry)) (now (work .exit)) base n n ⌝ }
+{
+    let mut q = 0;
+    while q < n {
+        seat(work, g, base, n, q);
+        q += 1;
+    }
+}
+
+// Classes to begin with.
+fn start_classes(work: &mut [u16], g: Grid, base: usize, n: usize)
+    requires { ⌜ Ready g (now work) base n ⌝ }
+    ensures { λ _. ⌜ Seated g (now (work .entry)) (now (work .exit)) base n n ⌝ }
+{
+    clear_notes(work, g, base, n, 2);
+    seat_all(work, g, base, n);
+}
+
 // The classes of the n states in the rows from `base`, each in entry 1 of its row's last cell.
 pub fn merge(work: &mut [u16], g: Grid, base: usize, n: usize)
     requires { ⌜ Ready g (now work) base n ⌝ }
     requires { ⌜ Early (g .tags) (standing g (now work) base n) ⌝ }
     ensures { λ _. ⌜ Merged g (now (work .entry)) (now (work .exit)) base n ⌝ }
 {
-    clear_notes(work, g, base, n, 1);
+    start_classes(work, g, base, n);
     round(work, g, base, n, true);
     let mut going = true;
     while going {

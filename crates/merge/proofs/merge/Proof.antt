@@ -1,4 +1,5 @@
-use Rattle.merge.proofs.Rounds.{part-alone, Worded, Still, weight, flag, worded-first, worded-next, still-next, round-falls, merged-done}
+use Rattle.merge.proofs.Seats.{part-seated}
+use Rattle.merge.proofs.Rounds.{Worded, Still, weight, flag, worded-first, worded-next, still-next, round-falls, merged-done}
 use Rattle.merge.specs.Classes.{Part}
 use Rattle.workspace.proofs.Cells.{kept-none, kept-then, kept-wider}
 use Rattle.workspace.specs.Cells.{Kept, Spare}
@@ -12,7 +13,7 @@ use Rattle.merge.proofs.merge.Tie as tie
 use Rattle.merge.proofs.merge.Reads as reads
 use Rattle.merge.proofs.merge.Lts as lts
 use Rattle.merge.proofs.round.Reads as round-reads
-use Rattle.workspace.proofs.clear_notes.Reads as clear-notes-reads
+use Rattle.merge.proofs.start_classes.Reads as start-classes-reads
 
 abbrev Inv-loop : tie.InvT-loop
 Inv-loop work₀ g base n going₀ work going = Kept g work₀ work (Spare g base (base + n) 1 4) × Part g work base n × Worded g work base n × (going ≡ false → Still g work base n)
@@ -21,17 +22,17 @@ abbrev μ-loop : tie.MeasureT-loop
 μ-loop work₀ g base n going₀ work going = weight g work base n + flag going
 
 -- src/lib.rt:179:5
-clear-notes-requires : tie.Need-clear-notes-requires Inv-loop μ-loop
-clear-notes-requires c κs = search needs
+start-classes-requires : tie.Need-start-classes-requires Inv-loop μ-loop
+start-classes-requires c κs = search needs
 
 -- src/lib.rt:180:5
 round-requires : tie.Need-round-requires Inv-loop μ-loop
-round-requires c κs = let st = c .before .before .before .before .before .before in let a = st .args in part-alone (a .g) (a .work .now) (a .base) (a .n) (st .pre .0) (st .pre .1) _ (c .before .before .before .clear-notes .ensures)
+round-requires c κs = let st = c .before .before .before .before .before .before in let a = st .args in part-seated (a .g) (a .base) (a .n) (a .work .now) _ (st .pre .0) (st .pre .1) (c .before .before .before .start-classes .ensures)
 
 -- src/lib.rt:182:5
 loop-holds : tie.Need-loop-holds Inv-loop μ-loop
 loop-holds c = let st = c .before .before .before .before .before .before .before .before .before in let a = st .args in
-    let s = part-alone (a .g) (a .work .now) (a .base) (a .n) (st .pre .0) (st .pre .1) _ (c .before .before .before .before .before .before .clear-notes .ensures) in
+    let s = part-seated (a .g) (a .base) (a .n) (a .work .now) _ (st .pre .0) (st .pre .1) (c .before .before .before .before .before .before .start-classes .ensures) in
     (kept-none (a .g) _ _, c .before .before .round .ensures .part, worded-first (a .g) _ _ (a .base) (a .n) s _ (c .before .before .round .ensures), λ e. let z : _≡_ {A = ℕ} 0 1 = cc in absurd (omega arith))
 
 -- src/lib.rt:183:9
@@ -53,14 +54,14 @@ loop-again c = let a = c .before .before .before .before .before .before .before
 
 -- src/lib.rt:174:1
 same-length : tie.Need-same-length Inv-loop μ-loop
-same-length c = c .before .loop .inv .0 .long ∙ c .before .before .before .before .round .ensures .kept .long ∙ c .before .before .before .before .before .before .before .before .clear-notes .ensures .kept .long
+same-length c = c .before .loop .inv .0 .long ∙ c .before .before .before .before .round .ensures .kept .long ∙ c .before .before .before .before .before .before .before .before .start-classes .ensures .kept .long
 
 -- src/lib.rt:174:1
 returns : tie.Need-returns Inv-loop μ-loop
 returns c = let st = c .before .before .before .before .before .before .before .before .before .before .before in let a = st .args in
     let R = Spare (a .g) (a .base) (a .base + a .n) 1 4 in
     merged-done (a .g) _ _ (a .base) (a .n) (st .pre .0)
-    (kept-then (a .g) R _ _ _ (kept-then (a .g) R _ _ _ (kept-wider (a .g) R _ _ _ (c .before .before .before .before .before .before .before .before .clear-notes .ensures .kept) (λ r c e i. (i .0, i .1, i .2, i .3, omega (arith, i .4)))) (c .before .before .before .before .round .ensures .kept)) (c .before .loop .inv .0))
+    (kept-then (a .g) R _ _ _ (kept-then (a .g) R _ _ _ (kept-wider (a .g) R _ _ _ (c .before .before .before .before .before .before .before .before .start-classes .ensures .kept) (λ r c e i. (i .0, i .1, i .2, i .3, omega (arith, i .4)))) (c .before .before .before .before .round .ensures .kept)) (c .before .loop .inv .0))
     (c .before .loop .inv .1) (c .before .loop .inv .2) (c .before .loop .inv .3 (c .loop-test .left))
 
 pub merge-spec : {M : Type 1} → statement M
@@ -69,7 +70,7 @@ merge-spec =
     (tie.spec
     Inv-loop
     μ-loop
-    clear-notes-requires
+    start-classes-requires
     round-requires
     loop-holds
     round-requires-2
