@@ -1,10 +1,7 @@
 -- Answers that resume the reading.
-use Prim.Native.Nat.{ℕ, _+_, _≤_, _<_}
+use Prim.Native.Nat.{ℕ, _≤_}
 use native.Mathlib.Omega.{arith}
-use mathlib.Core.Path.{_≡_, refl, _∙_, subst}
-use mathlib.Core.Bool.{Bool, true, false}
-use borrow.Author.Tests.{ne-eqb}
-use lib.Dec.{eqb}
+use mathlib.Core.Path.{_≡_, refl, _∙_}
 use mathlib.Core.List.{List}
 use lib.ListN.{length, length-reverse}
 use Rattle.limits.specs.Limits.{most-rules}
@@ -32,9 +29,6 @@ module _ (s : List ℕ) (from : Outcome Cascade) (next : ℕ) (a : Kept) (h : Sh
 
   pub resumes-book : (k m : ℕ) → m ≤ most-rules → next ≤ length s → from ≡ readCommands s k m a next → Resumes s from next a (Book k m)
   resumes-book k m i j f = record { goes-on = f; inside = λ k' m' e. let g : m ≡ m' = cc in (omega arith, j); shaped = h }
-
-  pub resumes-at : (next' : ℕ) (r : BookAnswer) → next ≡ next' → Resumes s from next a r → Resumes s from next' a r
-  resumes-at next' r e f = subst (λ (n : ℕ). Resumes s from n a r) e f
 
 -- a refusal that resumes the reading is its outcome
 pub refused-ends : (s : List ℕ) (from whole : Outcome Cascade) (next : ℕ) (a : Kept) (r : BookAnswer) (x : Refusal) → r ≡ Refused x → Resumes s from next a r → from ≡ whole

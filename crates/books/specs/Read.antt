@@ -1,7 +1,7 @@
 -- What reading a list of bytes as a book gives: the cascade, or the refusal at the earliest byte. Byte by byte, so that no later byte
 -- can decide. The theorem in proofs/Encode.antt says that exactly the encodings of valid cascades are read.
 use Prim.Native.Nat.{ℕ, zero, suc}
-use mathlib.Core.Bool.{Bool, true, false, _&&_}
+use mathlib.Core.Bool.{true, false, _&&_}
 use mathlib.Core.List.{List, [], _∷_, _++_, reverse}
 use lib.Dec.{eqb, leb, ltb}
 use lib.ListN.{length, getD}

@@ -2,14 +2,14 @@
 use Prim.Native.Nat.{ℕ, suc, _+_, _-_, _≤_, _<_}
 use native.Mathlib.Omega.{arith}
 use native.Mathlib.Decide.{ℕ-discrete, decLt}
-use mathlib.Core.Path.{_≡_, refl, sym, ap, _∙_, subst}
+use mathlib.Core.Path.{_≡_, sym, ap, _∙_}
 use mathlib.Core.Logic.{_⊎_, inl, inr}
 use mathlib.Core.List.{List}
 use Rattle.words.proofs.Word.{below-suc}
 use Rattle.transducers.proofs.Lower.{pigeonhole}
 use Rattle.workspace.specs.declared.Grid.{Grid}
-use Rattle.workspace.specs.Cells.{at, word, Sized, Kept, Spare, Entry, Got, Put, Cleared}
-use Rattle.workspace.proofs.Cells.{kept-none, kept-then, kept-wider, word-kept}
+use Rattle.workspace.specs.Cells.{at, Kept, Spare, Entry, Put, Cleared}
+use Rattle.workspace.proofs.Cells.{kept-then, kept-wider, word-kept}
 use Rattle.compose.specs.Pairs.{pairOf, markOf, Pairs, Room, Grown, Entered, Leads}
 
 module _ (g : Grid) (base total : ℕ) where
@@ -151,10 +151,6 @@ module _ (g : Grid) (base total : ℕ) where
                 };
             here = λ e. omega (arith, e, put2 .here);
           }
-
-  pub enter-old : (W : List ℕ) (len s : ℕ) → Pairs g W base total len → (markOf g W base s ≡ 0 → ⊥) → Entered g W W base total len s len
-  enter-old W len s p n =
-      record { grown = record { kept = kept-none g (Spare g base (base + total) 0 2) W; pairs = p; more = omega arith; old = λ i h. refl }; here = n }
 
   -- the first state is the pair of the first two
   pub begun : (W X Y Z : List ℕ) → 0 < total → 8 ≤ g .depth → Cleared g W X base total 1 total → Put g X Y base (g .tags) 0 0 → Put g Y Z base (g .tags) 1 1

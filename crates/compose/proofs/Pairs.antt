@@ -3,27 +3,26 @@ use Prim.Native.Nat.{ℕ, zero, suc, _+_, _-_, _*_, _/_, _%_, _≤_, _<_}
 use native.Mathlib.Omega.{arith}
 use native.Mathlib.Decide.{ℕ-discrete}
 use native.Mathlib.Nat.{mul-le-mul-right, suc-mul, mod-lt, div-lt-iff-lt-mul}
-use mathlib.Core.Path.{_≡_, refl, sym, ap, ap₂, _∙_, subst}
+use mathlib.Core.Path.{_≡_, refl, sym, ap, ap₂, _∙_}
 use mathlib.Core.Logic.{inl, inr}
-use mathlib.Core.List.{List, [], _∷_, _++_, append-nil}
+use mathlib.Core.List.{List, [], _++_, append-nil}
 use lib.ListN.{length, length-append}
 use Rattle.words.specs.Word.{Below}
 use Rattle.transducers.specs.Transducer.{Shape, puts}
-use Rattle.transducers.specs.Table.{Table, shape}
 use Rattle.transducers.specs.Run.{walk, outputs}
-use Rattle.transducers.specs.Canonical.{Inside, Sound, Held}
+use Rattle.transducers.specs.Canonical.{Sound, Held}
 use Rattle.transducers.specs.Tabulate.{table, Doing}
-use Rattle.transducers.specs.Compose.{product, compose}
+use Rattle.transducers.specs.Compose.{product}
 use Rattle.transducers.proofs.Run.{puts-append, walk-below, outputs-length}
 use Rattle.transducers.proofs.Compose.{final-length, sound-product, doing-compose}
 use Rattle.transducers.proofs.Tabulate.{length-table, agree-table, puts-table, doing-table}
 use Rattle.workspace.specs.declared.Grid.{Grid}
-use Rattle.workspace.specs.Cells.{at, word, Sized, Inner, Kept, Entry, In-rows, Cell, Spare, Got, Put, Written}
-use Rattle.workspace.specs.Holds.{StepAt, RowAt, Roomy, Holds, tableAt, held, standing}
+use Rattle.workspace.specs.Cells.{at, word, Inner, Kept, Entry, In-rows, Cell, Spare, Got, Put, Written}
+use Rattle.workspace.specs.Holds.{Roomy, Holds, tableAt, held, standing}
 use Rattle.workspace.proofs.Cells.{kept-wider, word-length, word-kept, sized-kept, written-more, written-is}
-use Rattle.workspace.proofs.Holds.{holds-kept, length-at, table-at, holds-at, roomy-held, holds-table}
+use Rattle.workspace.proofs.Holds.{holds-kept, length-at, table-at, roomy-held, holds-table}
 use Rattle.compose.specs.Runs.{Runs, Ran}
-use Rattle.compose.specs.Pairs.{pairOf, markOf, Pairs, Room, Grown, Entered, Leads, Step-notes, Row-notes, Step-paired, State, Searching}
+use Rattle.compose.specs.Pairs.{pairOf, markOf, Pairs, Room, Grown, Entered, Step-notes, Row-notes, Step-paired, State, Searching}
 use Rattle.compose.specs.Composed.{Composable, Composed}
 use Rattle.compose.proofs.Cover.{Covers, covers-puts, covers-sound, covers-held}
 use Rattle.compose.proofs.Notes.{grown-then, grown-wider, grown-by}

@@ -1,16 +1,15 @@
 -- The search for the reached pairs: step by step, row by row.
-use Prim.Native.Nat.{ℕ, suc, _+_, _≤_, _<_}
+use Prim.Native.Nat.{ℕ, _+_, _≤_, _<_}
 use native.Mathlib.Omega.{arith}
-use mathlib.Core.Path.{_≡_, refl, sym, ap, _∙_, subst}
+use mathlib.Core.Path.{_≡_, refl, _∙_}
 use mathlib.Core.Logic.{_⊎_, inl, inr}
 use mathlib.Core.List.{List}
 use lib.ListN.{length}
 use Rattle.words.proofs.Word.{below-suc}
 use Rattle.transducers.specs.Transducer.{Shape}
 use Rattle.workspace.specs.declared.Grid.{Grid}
-use Rattle.workspace.specs.Cells.{at, word, Kept, Cell, In-rows, Spare, Written}
-use Rattle.workspace.specs.Holds.{Roomy}
-use Rattle.workspace.proofs.Cells.{kept-none, kept-then, kept-wider, word-kept, word-length}
+use Rattle.workspace.specs.Cells.{Cell, In-rows, Written}
+use Rattle.workspace.proofs.Cells.{kept-none, kept-then, kept-wider, word-kept}
 use Rattle.compose.specs.Pairs.{pairOf, Pairs, Grown, Leads, Step-notes, Row-notes, Step-paired, Steps-paired, State, Row-paired, Searching}
 use Rattle.compose.proofs.Notes.{grown-then, grown-wider, grown-by, leads-kept}
 

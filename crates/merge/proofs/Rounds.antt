@@ -1,29 +1,28 @@
 -- Rounds: the classes are split by keys until nothing changes, and are those of the definition then.
-use Prim.Native.Nat.{ℕ, suc, _+_, _-_, _≤_, _<_}
+use Prim.Native.Nat.{ℕ, _+_, _-_, _≤_, _<_}
 use native.Mathlib.Omega.{arith}
-use native.Mathlib.Decide.{ℕ-discrete}
-use mathlib.Core.Path.{_≡_, refl, sym, ap, ap₂, _∙_, subst}
+use mathlib.Core.Path.{_≡_, refl, sym, ap, _∙_, subst}
 use mathlib.Core.Logic.{_⊎_, inl, inr}
 use mathlib.Core.Bool.{Bool, true, false}
 use mathlib.Core.List.{List}
 use lib.ListN.{length}
 use Rattle.words.proofs.Word.{below-suc}
-use Rattle.transducers.specs.Transducer.{Shape, puts}
-use Rattle.transducers.specs.Table.{Table, shape}
-use Rattle.transducers.specs.Canonical.{Same, Early}
+use Rattle.transducers.specs.Transducer.{puts}
+use Rattle.transducers.specs.Table.{Table}
+use Rattle.transducers.specs.Canonical.{Same}
 use Rattle.transducers.specs.Rounds.{total}
 use Rattle.transducers.specs.Tabulate.{tabulate}
 use Rattle.transducers.specs.Merge.{Classes, class, classes}
 use Rattle.transducers.proofs.Merge.{coarse-refined, classes-any}
 use Rattle.workspace.specs.declared.Grid.{Grid}
-use Rattle.workspace.specs.Cells.{at, Kept, Entry, Spare, Put, Got}
+use Rattle.workspace.specs.Cells.{Kept, Entry, Spare, Put, Got}
 use Rattle.workspace.specs.Holds.{Ready, tableAt, standing}
 use Rattle.workspace.proofs.Cells.{kept-none, kept-then, kept-wider, tabulate-same}
 use Rattle.workspace.proofs.Holds.{length-at}
 use Rattle.workspace.proofs.Views.{in-table, next-below, same-table, ready-kept}
 use Rattle.workspace.proofs.Falls.{total-falls}
-use Rattle.merge.specs.Classes.{classOf, newOf, linkOf, Words, Nexts, Key, Part, Parted, Placed, Differs, Taken, Round, Merged}
-use Rattle.merge.proofs.Keys.{words-sym, words-trans, key-refl, key-sym, key-trans, class-same, key-on, key-back, part-on}
+use Rattle.merge.specs.Classes.{classOf, newOf, Words, Nexts, Key, Part, Parted, Placed, Differs, Taken, Round, Merged}
+use Rattle.merge.proofs.Keys.{words-sym, words-trans, key-sym, key-trans, class-same, key-back}
 
 -- ---- the new classes are taken over
 

@@ -4,18 +4,17 @@ use native.Mathlib.Omega.{arith}
 use native.Mathlib.Nat.{mod-lt}
 use native.Mathlib.Numerals.{add-one}
 use native.Mathlib.Decide.{ℕ-discrete}
-use mathlib.Core.Path.{_≡_, refl, sym, ap, ap₂, _∙_, subst}
+use mathlib.Core.Path.{_≡_, refl, sym, ap, ap₂, _∙_}
 use mathlib.Core.Logic.{_⊎_, inl, inr}
 use mathlib.Core.List.{List}
 use lib.ListN.{length}
 use Rattle.words.proofs.Word.{below-suc}
-use Rattle.transducers.specs.Transducer.{puts}
-use Rattle.transducers.specs.Canonical.{Same, Early}
+use Rattle.transducers.specs.Canonical.{Early}
 use Rattle.transducers.proofs.Merge.{coarse-refined}
 use Rattle.workspace.specs.declared.Grid.{Grid}
 use Rattle.workspace.specs.Cells.{at, Kept, Entry, Spare, Put, Got, Cleared}
 use Rattle.workspace.specs.Holds.{Ready, tableAt, standing}
-use Rattle.workspace.proofs.Cells.{kept-none, kept-then, kept-wider}
+use Rattle.workspace.proofs.Cells.{kept-then, kept-wider}
 use Rattle.workspace.proofs.Holds.{length-at}
 use Rattle.workspace.proofs.Views.{in-table, final-size, output-size, same-table, ready-kept}
 use Rattle.merge.specs.Classes.{classOf, newOf, Part}

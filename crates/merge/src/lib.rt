@@ -8,13 +8,13 @@ use workspace::get;
 use workspace::put;
 use workspace::same_words;
 ghost use mathlib.Core.Path.{_≡_};
-ghost use Prim.Native.Nat.{ℕ, _+_, _≤_, _<_};
+ghost use Prim.Native.Nat.{ℕ, _+_, _<_};
 ghost use mathlib.Core.Bool.{true, false};
-ghost use Rattle.workspace.specs.Cells.{Decides, Kept, Spare};
+ghost use Rattle.workspace.specs.Cells.{Decides};
 ghost use Rattle.workspace.specs.Holds.{Ready, standing};
 ghost use Rattle.transducers.specs.Canonical.{Early};
 ghost use Rattle.merge.specs.Seats.{digest, Seating, Seated};
-ghost use Rattle.merge.specs.Classes.{classOf, newOf, Words, Nexts, Key, Part, Parted, Found, Placed, Named, Differs, Taken, Round, Merged};
+ghost use Rattle.merge.specs.Classes.{classOf, Nexts, Key, Part, Parted, Found, Placed, Named, Differs, Taken, Round, Merged};
 
 pub struct Walked {
     pub at: usize,

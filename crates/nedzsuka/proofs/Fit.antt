@@ -1,20 +1,19 @@
 -- The upper part of every answer has 56 bits.
-use Prim.Native.Nat.{ℕ, suc, _+_, _^_, _<_, _≤_}
+use Prim.Native.Nat.{ℕ, suc, _^_, _<_, _≤_}
 use native.Mathlib.Omega.{arith}
 use mathlib.Core.Path.{_≡_, refl, sym, ap, _∙_, subst}
-use mathlib.Core.Bool.{Bool, true, false, _&&_}
+use mathlib.Core.Bool.{Bool, true, false}
 use mathlib.Core.List.{List, [], _∷_}
 use borrow.Author.Tests.{leb-true}
 use lib.Dec.{eqb, leb, ltb}
 use lib.ListN.{length}
-use Rattle.limits.specs.Limits.{longest-sentence, most-states, most-rules, work-entries}
+use Rattle.limits.specs.Limits.{longest-sentence}
 use Rattle.words.specs.Word.{differences}
 use Rattle.answers.specs.Outcome.{Outcome, result, refused, nothing, byte, rule, andThen}
 use Rattle.cascades.specs.Rule.{Cascade}
 use Rattle.cascades.specs.Rewrite.{behavior}
 use Rattle.books.specs.Book.{Valid}
 use Rattle.books.specs.Read.{read, opening}
-use Rattle.books.proofs.Encode.{reads-exactly}
 use Rattle.sentences.specs.Run.{highest, run, changed}
 use Rattle.tagger.specs.Run.{bookRun}
 use Rattle.transducers.specs.Table.{Table}
@@ -25,9 +24,9 @@ use Rattle.tables.specs.Bytes.{encode}
 use Rattle.tables.specs.Decode.{Decoded, decode}
 use Rattle.tables.specs.Run.{tableRun}
 use Rattle.tables.proofs.Heads.{Read, gave, refuses, read-decode, valid-length}
-use Rattle.compilation.specs.Compile.{unless, fitting, compileRules, compileCascade, compileAnswer}
-use Rattle.compilation.proofs.Answer.{Exceeds, Told, fits, exceeds, told, NamesByte, names-byte, reached, Late, enough-answer, table-valid}
-use Rattle.compilation.proofs.Demand.{Compiled, compiled}
+use Rattle.compilation.specs.Compile.{unless, fitting, compileAnswer}
+use Rattle.compilation.proofs.Answer.{Told, fits, exceeds, told, NamesByte, names-byte, reached, Late, enough-answer, table-valid}
+use Rattle.compilation.proofs.Demand.{compiled}
 use Rattle.compiler.specs.Answer.{longOf}
 use Rattle.nedzsuka.specs.Packed.{Fits}
 

@@ -3,7 +3,7 @@ use answers::Refusal;
 use answers::RunAnswer;
 use compiler::CompileAnswer;
 ghost use mathlib.Core.Path.{_≡_};
-ghost use Prim.Native.Nat.{ℕ, _+_, _*_, _^_, _<_};
+ghost use Prim.Native.Nat.{_+_, _*_, _^_, _<_};
 ghost use lib.ListN.{length};
 ghost use Rattle.answers.specs.Answer.{refusal, runOutcome};
 ghost use Rattle.books.specs.Read.{read};

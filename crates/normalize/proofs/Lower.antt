@@ -1,32 +1,31 @@
 -- Fronts that are lowered, one at a time, until nothing changes.
-use Prim.Native.Nat.{ℕ, zero, suc, _+_, _-_, _≤_, _<_, min}
+use Prim.Native.Nat.{ℕ, _+_, _-_, _≤_, _<_, min}
 use native.Mathlib.Omega.{arith}
 use native.Mathlib.Decide.{ℕ-discrete}
 use mathlib.Core.Path.{_≡_, refl, sym, ap, ap₂, _∙_, subst}
 use mathlib.Core.Logic.{_⊎_, inl, inr}
 use mathlib.Core.Bool.{Bool, true, false}
-use mathlib.Core.List.{List, [], _∷_, _++_}
+use mathlib.Core.List.{List, [], _++_}
 use lib.ListN.{length, getD, take, drop}
 use lib.Seq.{length-take-le, take-length}
 use Rattle.words.specs.Front.{Prefix, meet}
 use Rattle.words.proofs.Word.{below-suc}
 use Rattle.words.proofs.Front.{begins-nil, begins-trans, begins-length, begins-whole, meet-left, meet-right}
-use Rattle.transducers.specs.Transducer.{Shape, puts}
 use Rattle.transducers.specs.Table.{Table, shape}
 use Rattle.transducers.specs.Rounds.{total}
 use Rattle.transducers.specs.Tabulate.{tabulate}
-use Rattle.transducers.specs.Normalize.{Above, Consistent}
+use Rattle.transducers.specs.Normalize.{Above}
 use Rattle.transducers.proofs.Tabulate.{length-tabulate, at-tabulate}
 use Rattle.transducers.proofs.Rounds.{total-le, total-same}
-use Rattle.transducers.proofs.Normalize.{above-finals, above-lowered}
+use Rattle.transducers.proofs.Normalize.{above-lowered}
 use Rattle.workspace.specs.declared.Grid.{Grid}
 use Rattle.workspace.specs.Cells.{at, word, Kept, Entry, Spare, Put, Got}
-use Rattle.workspace.specs.Holds.{Ready, tableAt, standing}
+use Rattle.workspace.specs.Holds.{Ready, standing}
 use Rattle.workspace.proofs.Cells.{kept-none, kept-then, kept-wider}
 use Rattle.workspace.proofs.Holds.{length-at}
-use Rattle.normalize.specs.Fronts.{size, frontAt, Fronted, Rests, Lowered, Lesser, Turn, Either, Settled, Started}
+use Rattle.normalize.specs.Fronts.{size, frontAt, Fronted, Rests, Lowered, Lesser, Turn, Either, Started}
 use Rattle.normalize.proofs.Meets.{meet-short, meet-stops, meet-goes, prefix-take, take-prefix}
-use Rattle.workspace.proofs.Views.{in-table, final-is, final-size, output-is, output-size, next-is, next-below, same-table, ready-kept}
+use Rattle.workspace.proofs.Views.{final-is, final-size, output-is, output-size, next-is, next-below, same-table, ready-kept}
 
 module _ (g : Grid) (W : List ℕ) (base n : ℕ) (ok : Fronted g W base n) where
   front-long : (q : ℕ) → q < n → length (frontAt g W base n q) ≡ size g W base q

@@ -11,13 +11,13 @@ use workspace::lesser;
 use workspace::put;
 ghost use mathlib.Core.Path.{_≡_};
 ghost use Prim.Native.Nat.{ℕ, _+_, _≤_, _<_};
-ghost use mathlib.Core.List.{List, _++_};
-ghost use lib.ListN.{length, drop};
+ghost use mathlib.Core.List.{_++_};
+ghost use lib.ListN.{length};
 ghost use Rattle.words.specs.Front.{meet};
-ghost use Rattle.workspace.specs.Cells.{at, word, Sized, Inner, Written};
-ghost use Rattle.workspace.specs.Holds.{Ready, Stepped, standing};
+ghost use Rattle.workspace.specs.Cells.{at, Sized, Inner, Written};
+ghost use Rattle.workspace.specs.Holds.{Ready, standing};
 ghost use Rattle.normalize.specs.Fronts.{size, frontAt, Fronted, Rests, Turn, Either, Settled, Started};
-ghost use Rattle.normalize.specs.Strip.{nextAt, strippedAt, Strip, Row-stripped, Steps-stripped, Finals-stripped, Normalized};
+ghost use Rattle.normalize.specs.Strip.{strippedAt, Strip, Row-stripped, Steps-stripped, Finals-stripped, Normalized};
 
 // What the front of q and the step on a, with the front behind it, have in common.
 fn meeting(work: &[u16], g: Grid, base: usize, n: usize, q: usize, a: usize) -> usize

@@ -13,7 +13,7 @@ use mathlib.Core.Bool.{false}
 use Rattle.words.proofs.Word.{below-suc}
 use Rattle.transducers.specs.Transducer.{puts}
 use Rattle.transducers.specs.Table.{Table, row, shape}
-use Rattle.transducers.specs.Tabulate.{table, Doing}
+use Rattle.transducers.specs.Tabulate.{Doing}
 use Rattle.transducers.specs.Merge.{class, classes, merged, merge}
 use Rattle.transducers.specs.Number.{place, note, noteAll, visit, order}
 use Rattle.transducers.proofs.Tabulate.{length-tabulate, at-tabulate, length-table, agree-table}

@@ -6,11 +6,11 @@ use mathlib.Core.Bool.{true, false}
 use mathlib.Core.List.{List}
 use lib.ListN.{length}
 use lib.Dec.{ltb}
-use Rattle.transducers.specs.Table.{Table, row}
+use Rattle.transducers.specs.Table.{Table}
 use Rattle.transducers.specs.Canonical.{Sound, Early}
 use Rattle.transducers.specs.Tabulate.{tabulate}
 use Rattle.transducers.specs.Merge.{class, classes, merge}
-use Rattle.transducers.specs.Number.{place, order}
+use Rattle.transducers.specs.Number.{place}
 use Rattle.workspace.specs.declared.Grid.{Grid}
 use Rattle.workspace.specs.Cells.{at, Sized, Kept, Spare}
 use Rattle.workspace.specs.Holds.{Holds, tableAt, standing}

@@ -8,14 +8,13 @@ use workspace::clear_notes;
 use workspace::get;
 use workspace::put;
 ghost use mathlib.Core.Path.{_≡_};
-ghost use Prim.Native.Nat.{ℕ, _+_, _≤_, _<_};
-ghost use mathlib.Core.List.{List, [], _∷_};
-ghost use lib.ListN.{length, getD};
+ghost use Prim.Native.Nat.{_+_, _≤_, _<_};
+ghost use mathlib.Core.List.{[], _∷_};
 ghost use Rattle.transducers.specs.Table.{row, shape};
-ghost use Rattle.transducers.specs.Number.{place, note, noteAll, order};
-ghost use Rattle.workspace.specs.Cells.{at, word, Sized, Inner, Kept, Spare, Written};
+ghost use Rattle.transducers.specs.Number.{note, noteAll, order};
+ghost use Rattle.workspace.specs.Cells.{word, Sized, Inner, Written};
 ghost use Rattle.workspace.specs.Holds.{Stepped, Stepping, Rowed, Filling};
-ghost use Rattle.number.specs.Order.{Classed, mergedAt, listed, Marked, Lists, Lists-room};
+ghost use Rattle.number.specs.Order.{Classed, mergedAt, listed, Lists, Lists-room};
 ghost use Rattle.number.specs.Numbering.{Ordered, numberedAt, Rowing, Numbered};
 
 // s is put behind the list of so many states if it is not there.

@@ -1,16 +1,16 @@
 -- The head of a table, and how long a table can be.
 use Prim.Native.Nat.{ℕ, zero, suc, _+_, _*_, _<_, _≤_}
 use native.Mathlib.Omega.{arith}
-use mathlib.Core.Path.{_≡_, refl, sym, ap, _∙_}
+use mathlib.Core.Path.{_≡_, refl, ap, _∙_}
 use mathlib.Core.Bool.{Bool, true, false}
-use mathlib.Core.List.{List, [], _∷_, _++_}
+use mathlib.Core.List.{List, [], _∷_}
 use borrow.Author.Tests.{ne-eqb, lt-leb}
 use lib.Dec.{eqb, leb, ltb}
 use lib.ListN.{length, drop, getD, length-append}
 use Rattle.words.specs.Word.{Below}
 use Rattle.limits.specs.Limits.{fewest-tags, most-tags, most-states, most-held}
-use Rattle.answers.specs.Outcome.{Outcome, result, refused, nothing, andThen}
-use Rattle.transducers.specs.Table.{Step, Row, Table, row, step, no-step, no-row}
+use Rattle.answers.specs.Outcome.{Outcome, result, andThen}
+use Rattle.transducers.specs.Table.{Step, Row, Table, row, no-step, no-row}
 use Rattle.tables.specs.Valid.{ValidTable}
 use Rattle.tables.specs.Bytes.{number, tagged, joined, stepBytes, rowBytes, encode}
 use Rattle.tables.specs.Decode.{Decoded, provided, malformed, word, many, readStep, readRow, readTable, decode, ended, rowsBalanced}

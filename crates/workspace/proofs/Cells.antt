@@ -6,10 +6,10 @@ use native.Mathlib.Numerals.{add-one}
 use native.Mathlib.Decide.{decLe, ℕ-discrete}
 use borrow.Author.Tests.{eq-eqb, ne-eqb, eqb-true, eqb-false}
 use lib.Dec.{eqb}
-use mathlib.Core.Bool.{Bool, true, false}
+use mathlib.Core.Bool.{false}
 use Rattle.words.proofs.Word.{below-suc}
 use Rattle.words.proofs.Front.{begins-refl, begins-length, begins-whole, meet-left, meet-right, meet-greatest}
-use mathlib.Core.Path.{_≡_, refl, sym, ap, ap₂, _∙_, subst}
+use mathlib.Core.Path.{_≡_, refl, sym, ap, ap₂, _∙_}
 use mathlib.Core.Logic.{_⊎_, inl, inr}
 use mathlib.Core.List.{List, [], _∷_, _++_, append-assoc, append-nil}
 use lib.ListN.{length, getD, set, take, drop, length-append, length-set, length-drop, drop-of-length-le}
@@ -18,7 +18,7 @@ use Rattle.words.specs.Front.{meet}
 use Rattle.transducers.specs.Tabulate.{tabulate}
 use Rattle.transducers.proofs.Tabulate.{length-tabulate, getD-tabulate}
 use Rattle.workspace.specs.declared.Grid.{Grid}
-use Rattle.workspace.specs.Cells.{ix, at, write, word, Sized, In, Inner, Kept, Entry, Cell, Spare, Got, Put, Cleared, Written, part, Decides}
+use Rattle.workspace.specs.Cells.{ix, at, word, Sized, In, Inner, Kept, Entry, Cell, Spare, Got, Put, Cleared, Written, part, Decides}
 
 -- places in the slice
 

@@ -1,8 +1,8 @@
 // The lent slice of 16-bit numbers as rows of cells of entries.
 ghost use mathlib.Core.Path.{_≡_};
-ghost use Prim.Native.Nat.{ℕ, _+_, _*_, _^_, _≤_, _<_, min};
-ghost use mathlib.Core.List.{List, [], _∷_, _++_};
-ghost use mathlib.Core.Bool.{true, false};
+ghost use Prim.Native.Nat.{_+_, _*_, _^_, _≤_, _<_, min};
+ghost use mathlib.Core.List.{[], _∷_, _++_};
+ghost use mathlib.Core.Bool.{false};
 ghost use lib.ListN.{length, drop, take};
 ghost use Rattle.words.specs.Front.{meet};
 ghost use Rattle.workspace.specs.Cells.{ix, at, word, Sized, In, Inner, Got, Put, Cleared, Written, part, Decides};

@@ -1,11 +1,11 @@
 -- `books::read_commands` meets its contract.
 use borrow.Author.Needs.{needs}
-use Prim.Native.Nat.{ℕ, _+_, _-_, _≤_}
+use Prim.Native.Nat.{_+_, _-_, _≤_}
 use native.Mathlib.Omega.{arith}
 use mathlib.Core.Path.{_≡_, refl, _∙_, sym, ap}
-use lib.ListN.{length, getD}
+use lib.ListN.{length}
 use Rattle.limits.specs.Limits.{most-rules}
-use Rattle.books.specs.Kept.{Kept, kept, Shaped}
+use Rattle.books.specs.Kept.{kept, Shaped}
 use Rattle.books.specs.Resume.{readCommands}
 use Rattle.books.specs.Answer.{cascadeOutcome}
 use Rattle.books.specs.declared.BookAnswer.{BookAnswer}

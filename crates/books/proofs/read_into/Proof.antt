@@ -1,5 +1,5 @@
 -- `books::read_into` meets its contract.
-use mathlib.Core.Path.{refl, sym, _∙_}
+use mathlib.Core.Path.{refl}
 use Rattle.books.specs.Read.{read}
 use Rattle.books.specs.Kept.{kept}
 use Rattle.books.proofs.Resume.{refused-ends, book-goes-on, ends-whole}

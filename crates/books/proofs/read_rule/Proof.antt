@@ -1,6 +1,5 @@
 -- `books::read_rule` meets its contract.
 use Prim.Native.Nat.{_+_}
-use lib.ListN.{getD}
 use Rattle.books.specs.Kept.{kept}
 use Rattle.books.specs.Resume.{readCommands}
 use Rattle.books.proofs.Commands.{command-unknown}

@@ -1,8 +1,8 @@
 -- `compose::compose` meets its contract.
 use borrow.Author.Needs.{needs}
-use Prim.Native.Nat.{ℕ, _+_, _*_, _-_, _≤_, _<_}
+use Prim.Native.Nat.{_+_, _*_, _-_}
 use native.Mathlib.Omega.{arith}
-use mathlib.Core.Path.{_≡_, sym, subst}
+use mathlib.Core.Path.{sym}
 use Rattle.workspace.specs.Cells.{In-rows}
 use Rattle.workspace.specs.Holds.{standing}
 use Rattle.workspace.proofs.Cells.{kept-then}

@@ -2,7 +2,7 @@
 use borrow.Author.Needs.{needs}
 use native.Mathlib.Omega.{arith}
 use mathlib.Core.Path.{sym, _∙_}
-use Rattle.compose.proofs.Notes.{enter-old, enter-room, enter-new}
+use Rattle.compose.proofs.Notes.{enter-room, enter-new}
 use Rattle.compose.proofs.enter.Statement.{statement}
 use Rattle.compose.proofs.enter.Tie as tie
 use Rattle.compose.proofs.enter.Reads as reads

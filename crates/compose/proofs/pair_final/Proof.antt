@@ -1,4 +1,4 @@
-use Rattle.compose.proofs.Pairs.{some, pair-first, pair-second, runs-final, last-inner, last-room, end-below, final-done}
+use Rattle.compose.proofs.Pairs.{some, pair-first, runs-final, last-inner, last-room, final-done}
 use native.Mathlib.Omega.{arith}
 use borrow.Author.Needs.{needs}
 use Rattle.compose.proofs.pair_final.Statement.{statement}

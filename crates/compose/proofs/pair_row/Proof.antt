@@ -1,6 +1,5 @@
 -- `compose::pair_row` meets its contract.
 use native.Mathlib.Omega.{arith}
-use Rattle.compose.specs.Pairs.{Row-notes}
 use Rattle.compose.proofs.Pairs.{room, roomy-product, count-product, composable-kept, first-same, second-same, notes-inside}
 use Rattle.compose.proofs.Reached.{row-done}
 use borrow.Author.Needs.{needs}

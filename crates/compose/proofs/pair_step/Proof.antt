@@ -1,7 +1,7 @@
 -- `compose::pair_step` meets its contract.
-use Prim.Native.Nat.{ℕ, _+_, _*_, _-_, _<_}
+use Prim.Native.Nat.{_*_, _-_, _<_}
 use native.Mathlib.Omega.{arith}
-use Rattle.compose.proofs.Pairs.{some, pair-first, pair-second, runs-output, next-small, run-pairs, run-room, state-some, step-done}
+use Rattle.compose.proofs.Pairs.{some, pair-first, runs-output, next-small, run-pairs, run-room, step-done}
 use borrow.Author.Needs.{needs}
 use Rattle.compose.proofs.pair_step.Statement.{statement}
 use Rattle.compose.proofs.pair_step.Tie as tie

@@ -5,9 +5,9 @@ use mathlib.Core.Path.{ap₂}
 use borrow.Author.Needs.{needs}
 use Prim.Native.Nat.{ℕ, _+_, _*_, _-_, _≤_, _<_}
 use native.Mathlib.Omega.{arith}
-use mathlib.Core.Path.{_≡_, refl, sym, ap, _∙_, subst}
+use mathlib.Core.Path.{_≡_, ap, _∙_}
 use Rattle.workspace.specs.Cells.{at}
-use Rattle.merge.specs.Seats.{mixed, digest}
+use Rattle.merge.specs.Seats.{mixed}
 use Rattle.merge.proofs.Seats.{mixed-next}
 use Rattle.merge.proofs.digest_of.Statement.{statement}
 use Rattle.merge.proofs.digest_of.Tie as tie

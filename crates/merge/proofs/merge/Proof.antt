@@ -4,9 +4,9 @@ use Rattle.merge.specs.Classes.{Part}
 use Rattle.workspace.proofs.Cells.{kept-none, kept-then, kept-wider}
 use Rattle.workspace.specs.Cells.{Kept, Spare}
 use mathlib.Core.Path.{_≡_, ap, _∙_}
-use mathlib.Core.Bool.{true, false}
+use mathlib.Core.Bool.{false}
 use native.Mathlib.Omega.{arith}
-use Prim.Native.Nat.{ℕ, _+_, _<_}
+use Prim.Native.Nat.{ℕ, _+_}
 use borrow.Author.Needs.{needs}
 use Rattle.merge.proofs.merge.Statement.{statement}
 use Rattle.merge.proofs.merge.Tie as tie

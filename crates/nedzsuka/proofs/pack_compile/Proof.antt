@@ -1,6 +1,6 @@
 -- `nedzsuka::pack_compile` meets its contract.
 use borrow.Author.Needs.{needs}
-use mathlib.Core.Path.{_≡_, sym, ap, _∙_, subst}
+use mathlib.Core.Path.{sym, ap, _∙_, subst}
 use Rattle.compiler.specs.Answer.{compileOutcome}
 use Rattle.compiler.specs.declared.CompileAnswer.{CompileAnswer}
 use Rattle.nedzsuka.specs.Packed.{packed, Fits}

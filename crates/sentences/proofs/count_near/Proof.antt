@@ -1,11 +1,9 @@
-use Prim.Native.Nat.{ℕ, _≤_, _-_, _+_}
+use Prim.Native.Nat.{_≤_, _-_, _+_}
 use native.Mathlib.Omega.{arith}
 use borrow.Author.Needs.{needs}
 use mathlib.Core.Logic.{⊎-elim}
 use mathlib.Core.Path.{_≡_}
-use mathlib.Core.List.{[]}
-use lib.ListN.{length, drop}
-use lib.Seq.{drop-length}
+use lib.ListN.{drop}
 use Rattle.words.specs.Word.{differences}
 use Rattle.sentences.proofs.Laws.{same-next, other-next}
 use Rattle.sentences.proofs.count_near.Statement.{statement}

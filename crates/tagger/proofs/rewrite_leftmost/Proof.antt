@@ -1,10 +1,10 @@
 -- `tagger::rewrite_leftmost` meets its contract: nothing is written until the pattern is found, and it begins at no place passed.
-use Prim.Native.Nat.{ℕ, _+_, _-_, _≤_}
+use Prim.Native.Nat.{_+_, _-_, _≤_}
 use native.Mathlib.Omega.{arith}
 use borrow.Author.Needs.{needs}
 use mathlib.Core.Logic.{⊎-elim}
-use mathlib.Core.Path.{_≡_, refl, _∙_, sym, ap}
-use lib.ListN.{length, set, getD, length-set}
+use mathlib.Core.Path.{_≡_, refl, _∙_, sym}
+use lib.ListN.{length, set, length-set}
 use Rattle.cascades.proofs.Rewrite.{From, search-none}
 use Rattle.tagger.proofs.Laws.{found, not-here, not-first}
 use Rattle.tagger.proofs.rewrite_leftmost.Statement.{statement}
