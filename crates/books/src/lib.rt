@@ -2,6 +2,7 @@
 use answers::Refusal;
 use limits::PATTERN;
 use limits::RULES;
+use words::wide;
 ghost use mathlib.Core.Path.{_≡_};
 ghost use Prim.Native.Nat.{_+_, _≤_, _<_};
 ghost use lib.ListN.{length, getD};
@@ -21,12 +22,6 @@ fn refused(number: u8, byte: usize) -> BookAnswer
     ensures { λ r. ⌜ r ≡ BookAnswer.Refused (AtByte number byte) ⌝ }
 {
     BookAnswer::Refused(Refusal::AtByte { number, byte })
-}
-
-fn wide(x: u8) -> usize
-    ensures { λ r. ⌜ r ≡ x ⌝ }
-{
-    x as usize
 }
 
 // The refusal that closing the last of m rules gives, 0 for none.

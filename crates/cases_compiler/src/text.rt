@@ -1,6 +1,7 @@
 // What is written to standard output.
 use answers::Refusal;
 use libc::STDOUT_FILENO;
+use words::wide;
 ghost use Prim.Native.Nat.{_≤_, _<_};
 
 pub fn put(bytes: &[u8]) {
@@ -26,12 +27,6 @@ pub fn put_refusal(refusal: Refusal) {
         }
         Refusal::Bare { number } => put_number(number as usize),
     }
-}
-
-fn wide(x: u8) -> usize
-    ensures { λ r. ⌜ r < 256 ⌝ }
-{
-    x as usize
 }
 
 // The S of the table in the first n bytes.

@@ -4,6 +4,7 @@ use books::BookAnswer;
 use limits::PATTERN;
 use limits::RULES;
 use limits::STATES;
+use words::wide;
 use workspace::Grid;
 ghost use mathlib.Core.Path.{_≡_};
 ghost use Prim.Native.Nat.{_+_, _*_, _≤_, _<_};
@@ -52,12 +53,6 @@ fn finish(work: &[u16], g: Grid, n: usize, out: &mut [u8]) -> CompileAnswer
     }
     let end = encoder::write_table(work, g, 0, n, out);
     CompileAnswer::Table(end)
-}
-
-fn wide(x: u8) -> usize
-    ensures { λ r. ⌜ r ≡ x ⌝ }
-{
-    x as usize
 }
 
 // Adds the rule i of the arrays to the table in the first n rows.

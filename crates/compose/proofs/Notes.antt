@@ -8,8 +8,8 @@ use mathlib.Core.List.{List}
 use Rattle.words.proofs.Word.{below-suc}
 use Rattle.transducers.proofs.Lower.{pigeonhole}
 use Rattle.workspace.specs.declared.Grid.{Grid}
-use Rattle.workspace.specs.Cells.{at, Kept, Spare, Entry, Put, Cleared}
-use Rattle.workspace.proofs.Cells.{kept-then, kept-wider, word-kept}
+use Rattle.workspace.specs.Cells.{at, Kept, Spare, Put, Cleared}
+use Rattle.workspace.proofs.Cells.{kept-then, kept-wider, word-kept, spare-put}
 use Rattle.compose.specs.Pairs.{pairOf, markOf, Pairs, Room, Grown, Entered, Leads}
 
 module _ (g : Grid) (base total : ℕ) where
@@ -65,11 +65,6 @@ module _ (g : Grid) (base total : ℕ) where
           pair-is = ap (pairOf g Y base) next ∙ grown .old (at g X (base + i) a 0) (l .next-below) ∙ l .pair-is;
           output-is = word-kept g P X Y (grown .kept) (base + i) a 1 (omega arith) (l .inside) (λ e h p. miss e p) ∙ l .output-is;
         }
-
-  spare : (W X : List ℕ) (q e v : ℕ) → q < total → e < 2 → Put g W X (base + q) (g .tags) e v → Kept g W X (Spare g base (base + total) 0 2)
-  spare W X q e v h he p =
-      kept-wider g (Spare g base (base + total) 0 2) (Entry (base + q) (g .tags) e) W X (p .kept)
-      (λ r c f i. (omega (arith, i .0), omega (arith, i .0), i .1, omega arith, omega (arith, i .2)))
 
   -- a pair that has no state gets the next one
   module _ (W : List ℕ) (len s : ℕ) (ok : Room g W base total) (p : Pairs g W base total len) (h : s < total) (none : markOf g W base s ≡ 0) where
@@ -144,7 +139,7 @@ module _ (g : Grid) (base total : ℕ) where
           record {
             grown =
                 record {
-                  kept = kept-then g (Spare g base (base + total) 0 2) W X Y (spare W X len 0 s enter-room (omega arith) put1) (spare X Y s 1 (len + 1) h (omega arith) put2);
+                  kept = kept-then g (Spare g base (base + total) 0 2) W X Y (spare-put g base total 0 2 W X len 0 s enter-room (omega arith) (omega arith) put1) (spare-put g base total 0 2 X Y s 1 (len + 1) h (omega arith) (omega arith) put2);
                   pairs = pairs;
                   more = omega arith;
                   old = old;
@@ -158,7 +153,7 @@ module _ (g : Grid) (base total : ℕ) where
   begun W X Y Z some deep m p1 p2 = (
     kept-then g (Spare g base (base + total) 0 2) W X Z
         (kept-wider g (Spare g base (base + total) 0 2) (Spare g base (base + total) 1 2) W X (m .kept) (λ r c e i. (i .0, i .1, i .2, omega arith, i .4)))
-        (kept-then g (Spare g base (base + total) 0 2) X Y Z (spare X Y 0 0 0 some (omega arith) (rw row p1)) (spare Y Z 0 1 1 some (omega arith) (rw row p2))),
+        (kept-then g (Spare g base (base + total) 0 2) X Y Z (spare-put g base total 0 2 X Y 0 0 0 some (omega arith) (omega arith) (rw row p1)) (spare-put g base total 0 2 Y Z 0 1 1 some (omega arith) (omega arith) (rw row p2))),
     record {
       some = omega arith;
       low = some;

@@ -22,9 +22,10 @@ use Rattle.workspace.specs.Holds.{Roomy, Holds, tableAt, held, standing}
 use Rattle.workspace.proofs.Cells.{kept-wider, word-length, word-kept, sized-kept, written-more, written-is}
 use Rattle.workspace.proofs.Holds.{holds-kept, length-at, table-at, roomy-held, holds-table}
 use Rattle.compose.specs.Runs.{Runs, Ran}
-use Rattle.compose.specs.Pairs.{pairOf, markOf, Pairs, Room, Grown, Entered, Step-notes, Row-notes, Step-paired, State, Searching}
+use Rattle.compose.specs.Pairs.{pairOf, markOf, Pairs, Room, Grown, Entered, Step-notes, Row-notes, Step-paired, State}
 use Rattle.compose.specs.Composed.{Composable, Composed}
 use Rattle.compose.proofs.Cover.{Covers, covers-puts, covers-sound, covers-held}
+use Rattle.compose.proofs.Reached.{Searching}
 use Rattle.compose.proofs.Notes.{grown-then, grown-wider, grown-by}
 
 nonzero : (x : ℕ) → (x ≡ 0 → ⊥) → 0 < x

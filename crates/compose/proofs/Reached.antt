@@ -8,10 +8,17 @@ use lib.ListN.{length}
 use Rattle.words.proofs.Word.{below-suc}
 use Rattle.transducers.specs.Transducer.{Shape}
 use Rattle.workspace.specs.declared.Grid.{Grid}
-use Rattle.workspace.specs.Cells.{Cell, In-rows, Written}
+use Rattle.workspace.specs.Cells.{Kept, Cell, In-rows, Written}
 use Rattle.workspace.proofs.Cells.{kept-none, kept-then, kept-wider, word-kept}
-use Rattle.compose.specs.Pairs.{pairOf, Pairs, Grown, Leads, Step-notes, Row-notes, Step-paired, Steps-paired, State, Row-paired, Searching}
+use Rattle.compose.specs.Pairs.{pairOf, Pairs, Grown, Leads, Step-notes, Row-notes, Step-paired, Steps-paired, State, Row-paired}
 use Rattle.compose.proofs.Notes.{grown-then, grown-wider, grown-by, leads-kept}
+
+-- the states below i do what their pairs do
+pub record Searching (g : Grid) (W X : List ℕ) (base total : ℕ) (S : Shape) (i len : ℕ) : Type 0 where
+  pub kept : Kept g W X (In-rows base (base + total))
+  pub pairs : Pairs g X base total len
+  pub here : i ≤ len
+  pub states : (p : ℕ) → p < i → State g X base len p (pairOf g X base p) S
 
 module _ (g : Grid) (base total : ℕ) (S : Shape) where
   -- the steps of a row

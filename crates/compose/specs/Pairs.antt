@@ -74,10 +74,3 @@ pub record State (g : Grid) (X : List ℕ) (base len i s : ℕ) (S : Shape) : Ty
 pub record Row-paired (g : Grid) (W X : List ℕ) (base total len i s : ℕ) (S : Shape) (to : ℕ) : Type 0 where
   pub grown : Grown (Row-notes g base total i) g W X base total len to
   pub state : State g X base to i s S
-
--- so do the states below i
-pub record Searching (g : Grid) (W X : List ℕ) (base total : ℕ) (S : Shape) (i len : ℕ) : Type 0 where
-  pub kept : Kept g W X (In-rows base (base + total))
-  pub pairs : Pairs g X base total len
-  pub here : i ≤ len
-  pub states : (p : ℕ) → p < i → State g X base len p (pairOf g X base p) S

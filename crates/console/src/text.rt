@@ -1,4 +1,5 @@
 // Lines of text: their parts, and the numbers in them.
+use words::wide;
 ghost use Prim.Native.Nat.{_≤_};
 ghost use lib.ListN.{length};
 ghost use Rattle.io.specs.Counts.{Counts};
@@ -81,10 +82,4 @@ pub fn decimal(text: &[u8]) -> usize {
         i += 1;
     }
     n
-}
-
-fn wide(x: u8) -> usize
-    ensures { λ r. ⌜ r ≤ x ⌝ }
-{
-    x as usize
 }

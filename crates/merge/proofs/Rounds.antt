@@ -15,9 +15,9 @@ use Rattle.transducers.specs.Tabulate.{tabulate}
 use Rattle.transducers.specs.Merge.{Classes, class, classes}
 use Rattle.transducers.proofs.Merge.{coarse-refined, classes-any}
 use Rattle.workspace.specs.declared.Grid.{Grid}
-use Rattle.workspace.specs.Cells.{Kept, Entry, Spare, Put, Got}
+use Rattle.workspace.specs.Cells.{Kept, Spare, Put, Got}
 use Rattle.workspace.specs.Holds.{Ready, tableAt, standing}
-use Rattle.workspace.proofs.Cells.{kept-none, kept-then, kept-wider, tabulate-same}
+use Rattle.workspace.proofs.Cells.{kept-none, kept-then, kept-wider, tabulate-same, spare-put}
 use Rattle.workspace.proofs.Holds.{length-at}
 use Rattle.workspace.proofs.Views.{in-table, next-below, same-table, ready-kept}
 use Rattle.workspace.proofs.Falls.{total-falls}
@@ -40,11 +40,6 @@ module _ (g : Grid) (W : List ℕ) (base n : ℕ) (ok : Ready g W base n) where
         rests = λ e q h. absurd (omega arith);
       }
 
-  wider : (X Y : List ℕ) (q v : ℕ) → q < n → Put g X Y (base + q) (g .tags) 1 v → Kept g X Y (Spare g base (base + n) 1 2)
-  wider X Y q v h p =
-      kept-wider g (Spare g base (base + n) 1 2) (Entry (base + q) (g .tags) 1) X Y (p .kept)
-      (λ r c e i. (omega (arith, i .0), omega (arith, i .0), i .1, omega (arith, i .2), omega (arith, i .2)))
-
   elsewhere : (X Y : List ℕ) (q v o : ℕ) → Put g X Y (base + q) (g .tags) 1 v → (o ≡ q → ⊥) → classOf g Y base o ≡ classOf g X base o
   elsewhere X Y q v o p ne = p .kept .same (base + o) (g .tags) 1 (omega arith) (omega (arith, deep)) (λ i. ne (omega (arith, i .0)))
 
@@ -52,7 +47,7 @@ module _ (g : Grid) (W : List ℕ) (base n : ℕ) (ok : Ready g W base n) where
       → Got g X (base + q) (g .tags) 2 d → Put g X Y (base + q) (g .tags) 1 d → Differs old d c r → Taken g W Y base n (q + 1) r
   taken-next X Y q c d old r h t got-c got-d p diff =
       record {
-        kept = kept-then g (Spare g base (base + n) 1 2) W X Y (t .kept) (wider X Y q d h p);
+        kept = kept-then g (Spare g base (base + n) 1 2) W X Y (t .kept) (spare-put g base n 1 2 X Y q 1 d h (omega arith) (omega arith) p);
         taken = λ o ho. go o (below-suc o q (omega arith));
         still = λ o ho. elsewhere X Y q d o p (λ e. omega arith) ∙ t .still o (omega arith);
         moved = λ e. move (diff .up e);

@@ -12,9 +12,9 @@ use Rattle.words.proofs.Word.{below-suc}
 use Rattle.transducers.specs.Canonical.{Early}
 use Rattle.transducers.proofs.Merge.{coarse-refined}
 use Rattle.workspace.specs.declared.Grid.{Grid}
-use Rattle.workspace.specs.Cells.{at, Kept, Entry, Spare, Put, Got, Cleared}
+use Rattle.workspace.specs.Cells.{at, Kept, Spare, Put, Got, Cleared}
 use Rattle.workspace.specs.Holds.{Ready, tableAt, standing}
-use Rattle.workspace.proofs.Cells.{kept-then, kept-wider}
+use Rattle.workspace.proofs.Cells.{kept-then, kept-wider, spare-put}
 use Rattle.workspace.proofs.Holds.{length-at}
 use Rattle.workspace.proofs.Views.{in-table, final-size, output-size, same-table, ready-kept}
 use Rattle.merge.specs.Classes.{classOf, newOf, Part}
@@ -35,11 +35,6 @@ module _ (g : Grid) (base n : ℕ) where
       mixed-same (λ a. at g X (base + q) a 1) (λ a. at g W (base + q) a 1) (at g X (base + q) (g .tags) 7) (at g W (base + q) (g .tags) 7) (g .tags)
       (kept .same (base + q) (g .tags) 7 (omega arith) (omega arith) (λ i. omega (arith, i .4)))
       (λ a ha. kept .same (base + q) a 1 (omega arith) (omega arith) (λ i. omega (arith, i .2)))
-
-  spare : (W X : List ℕ) (q e v : ℕ) → q < n → 1 ≤ e → e < 3 → Put g W X (base + q) (g .tags) e v → Kept g W X (Spare g base (base + n) 1 3)
-  spare W X q e v h lo hi p =
-      kept-wider g (Spare g base (base + n) 1 3) (Entry (base + q) (g .tags) e) W X (p .kept)
-      (λ r c f i. (omega (arith, i .0), omega (arith, i .0), i .1, omega (arith, i .2), omega (arith, i .2)))
 
   pub seating-start : (W X : List ℕ) → Ready g W base n → Cleared g W X base n 2 n → Seated g W X base n 0
   seating-start W X ok c =
@@ -82,7 +77,7 @@ module _ (g : Grid) (base n : ℕ) where
             }
           where
             kept : Kept g W X (Spare g base (base + n) 1 3)
-            kept = spare W X i 1 (head - 1) h (omega arith) (omega arith) p
+            kept = spare-put g base n 1 3 W X i 1 (head - 1) h (omega arith) (omega arith) p
 
             news : (c : ℕ) → newOf g X base c ≡ newOf g W base c
             news c = p .kept .same (base + c) (g .tags) 2 (omega arith) (omega (arith, deep)) (λ j. omega (arith, j .2))
@@ -131,7 +126,7 @@ module _ (g : Grid) (base n : ℕ) where
             kept : Kept g W Y (Spare g base (base + n) 1 3)
             kept =
                 kept-then g (Spare g base (base + n) 1 3) W X Y
-                (spare W X b 2 (i + 1) (omega (arith, is, bucket-below i)) (omega arith) (omega arith) p1) (spare X Y i 1 i h (omega arith) (omega arith) p2)
+                (spare-put g base n 1 3 W X b 2 (i + 1) (omega (arith, is, bucket-below i)) (omega arith) (omega arith) p1) (spare-put g base n 1 3 X Y i 1 i h (omega arith) (omega arith) p2)
 
             new-here : newOf g Y base b ≡ i + 1
             new-here = p2 .kept .same (base + b) (g .tags) 2 (omega arith) (omega (arith, deep)) (λ j. omega (arith, j .2)) ∙ p1 .here

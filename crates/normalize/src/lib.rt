@@ -1,13 +1,13 @@
 // Normalization: the result does the same, and each state puts out as early as can be.
 // Time grows with the number of rounds (at most the tags held, in practice a few) times the states times the tags.
 // The idea is Choffrut's and Mohri's: what every answer from a state begins with is put out on the way into that state.
+use words::lesser;
 use workspace::Grid;
 use workspace::append;
 use workspace::clear;
 use workspace::common;
 use workspace::drop_front;
 use workspace::get;
-use workspace::lesser;
 use workspace::put;
 ghost use mathlib.Core.Path.{_≡_};
 ghost use Prim.Native.Nat.{ℕ, _+_, _≤_, _<_};

@@ -20,9 +20,9 @@ use Rattle.transducers.proofs.Tabulate.{length-tabulate, at-tabulate, length-ta
 use Rattle.transducers.proofs.Merge.{classes-are, doing-merge}
 use Rattle.transducers.proofs.Number.{noteAll-length, visit-kept, order-below, order-length}
 use Rattle.workspace.specs.declared.Grid.{Grid}
-use Rattle.workspace.specs.Cells.{at, Kept, Spare, Entry, Got, Put, Cleared}
+use Rattle.workspace.specs.Cells.{at, Kept, Spare, Got, Put, Cleared}
 use Rattle.workspace.specs.Holds.{Holds, tableAt, standing}
-use Rattle.workspace.proofs.Cells.{kept-none, kept-then, kept-wider, sized-kept}
+use Rattle.workspace.proofs.Cells.{kept-none, kept-then, kept-wider, sized-kept, spare-put}
 use Rattle.workspace.proofs.Holds.{holds-kept, table-at, length-at}
 use Rattle.number.specs.Order.{Classed, mergedAt, listed, mark, Marked, Lists, Lists-room}
 use Rattle.number.proofs.Lists.{note-old, note-new, mark-new, mark-other, mark-start, noteAll-next, noteAll-end, visit-next, visit-end}
@@ -37,11 +37,6 @@ module _ (g : Grid) (base : ℕ) where
   listed-at W len i h = at-tabulate len i (λ i. at g W (base + i) (g .tags) 4) 0 h
 
 module _ (g : Grid) (base n : ℕ) where
-  pub spare-put : (W X : List ℕ) (q e v : ℕ) → q < n → 4 ≤ e → e < 6 → Put g W X (base + q) (g .tags) e v → Kept g W X (Spare g base (base + n) 4 6)
-  spare-put W X q e v h le lt p =
-      kept-wider g (Spare g base (base + n) 4 6) (Entry (base + q) (g .tags) e) W X (p .kept)
-      (λ r c f i. (omega (arith, i .0), omega (arith, i .0), i .1, omega (arith, i .2), omega (arith, i .2)))
-
   -- notes leave the table and its classes
   module _ (W X : List ℕ) (ok : Classed g W base n) (kept : Kept g W X (Spare g base (base + n) 4 6)) where
     holds-on : Holds g X base (tableAt g W base n)
@@ -138,8 +133,8 @@ module _ (g : Grid) (base n : ℕ) where
           rw (new .0)
           (record {
             kept =
-                kept-then g (Spare g base (base + n) 4 6) W X Y (spare-put W X len 4 s add-room (omega arith) (omega arith) p)
-                (spare-put X Y s 5 (len + 1) h (omega arith) (omega arith) p2);
+                kept-then g (Spare g base (base + n) 4 6) W X Y (spare-put g base n 4 6 W X len 4 s add-room (omega arith) (omega arith) p)
+                (spare-put g base n 4 6 X Y s 5 (len + 1) h (omega arith) (omega arith) p2);
             is = ext-getD 0 (listed g Y base (len + 1)) (listed g W base len ++ (s ∷ [])) long (λ i lt. member i (below-suc i len (omega (arith, listed-length g base Y (len + 1)))));
             marked = record { marks = λ x hx. marks x hx (ℕ-discrete x s) };
             low = omega (arith, add-room);
@@ -233,7 +228,7 @@ module _ (g : Grid) (base n : ℕ) where
         kept =
             kept-then g (Spare g base (base + n) 4 6) W X Z
             (kept-wider g (Spare g base (base + n) 4 6) (Spare g base (base + n) 5 6) W X (c .kept) (λ r' c' e' i. (i .0, i .1, i .2, omega (arith, i .3), i .4)))
-            (kept-then g (Spare g base (base + n) 4 6) X Y Z (spare-put X Y 0 4 0 some (omega arith) (omega arith) p) (spare-put Y Z 0 5 1 some (omega arith) (omega arith) p2));
+            (kept-then g (Spare g base (base + n) 4 6) X Y Z (spare-put g base n 4 6 X Y 0 4 0 some (omega arith) (omega arith) p) (spare-put g base n 4 6 Y Z 0 5 1 some (omega arith) (omega arith) p2));
         is = ext-getD 0 (listed g Z base 1) (0 ∷ []) (listed-length g base Z 1) (λ i lt. member i (omega (arith, listed-length g base Z 1)));
         marked = record { marks = λ x hx. marks x hx (ℕ-discrete x 0) };
         low = some;

@@ -1,27 +1,22 @@
 // The transducer of one rule: it does what the rule does, and is the smallest one that does.
 // Time grows with the tags times the cube of the pattern's length.
 // 002, definition 2, after Simon's string matching automaton: the states are the prefixes of the pattern, here by their lengths.
+use words::lesser;
+use words::wide;
 use workspace::Grid;
 use workspace::clear;
-use workspace::lesser;
 use workspace::push;
 use workspace::put;
 ghost use mathlib.Core.Path.{_≡_};
-ghost use Prim.Native.Nat.{ℕ, suc, _+_, _*_, _≤_, _<_, min};
-ghost use mathlib.Core.List.{List, [], _∷_, _++_};
+ghost use Prim.Native.Nat.{_+_, _≤_, _<_};
+ghost use mathlib.Core.List.{[], _∷_, _++_};
 ghost use lib.ListN.{length, drop, take};
 ghost use Rattle.words.specs.Word.{prefix};
 ghost use Rattle.words.specs.Overlap.{overlap};
 ghost use Rattle.minimal.specs.OneRule.{oneRule, ruleTable, goes, says, held};
-ghost use Rattle.workspace.specs.Cells.{at, word, Sized, In, Inner, Kept, In-rows, Written, part};
+ghost use Rattle.workspace.specs.Cells.{at, word, Sized, Kept, In-rows, Written, part};
 ghost use Rattle.workspace.specs.Holds.{Stepped, Stepping, Rowed, Holds};
 ghost use Rattle.onerule.specs.Rule.{rule, Room};
-
-fn wide(x: u8) -> usize
-    ensures { λ r. ⌜ (r ≡ x) × (r < 256) ⌝ }
-{
-    x as usize
-}
 
 // Whether the tags of the pattern u from s to j, and a behind them, are the first ones of u.
 fn overlaps(u: &[u8], j: usize, a: usize, s: usize) -> bool

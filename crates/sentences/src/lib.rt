@@ -1,7 +1,8 @@
 // What the runs of books and of tables share: a sentence's refusals, the copy and the count of changed tags.
 use answers::Refusal;
+use words::lesser;
 ghost use mathlib.Core.Path.{_≡_};
-ghost use Prim.Native.Nat.{ℕ, _+_, _≤_, min};
+ghost use Prim.Native.Nat.{ℕ, _+_, _≤_};
 ghost use mathlib.Core.List.{List, _++_};
 ghost use lib.ListN.{length, drop};
 ghost use Rattle.words.specs.Word.{differences};
@@ -73,12 +74,6 @@ fn count_near(a: &[u8], b: &[u8], from: usize, to: usize) -> usize
         i += 1;
     }
     n as usize
-}
-
-fn lesser(a: usize, b: usize) -> usize
-    ensures { λ r. ⌜ r ≡ min a b ⌝ }
-{
-    if a < b { a } else { b }
 }
 
 // The number of places at which two words of one length differ.

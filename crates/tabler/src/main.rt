@@ -5,6 +5,7 @@ use books::BookAnswer;
 use compiler::CompileAnswer;
 use libc::STDIN_FILENO;
 use libc::STDOUT_FILENO;
+use words::wide;
 ghost use mathlib.Core.Path.{_≡_};
 ghost use Prim.Native.Nat.{_<_};
 ghost use lib.ListN.{length};
@@ -47,12 +48,6 @@ fn put_bytes(bytes: &[u8]) {
         i += 1;
     }
     put(b"\n");
-}
-
-fn wide(x: u8) -> usize
-    ensures { λ r. ⌜ r < 256 ⌝ }
-{
-    x as usize
 }
 
 // The S of a table's bytes stands behind 30 and K.

@@ -2,6 +2,7 @@
 use answers::Refusal;
 use answers::RunAnswer;
 use sentences::Admission;
+use words::wide;
 ghost use mathlib.Core.Path.{_≡_};
 ghost use Prim.Native.Nat.{ℕ, _+_, _*_, _/_, _%_, _≤_, _<_, min};
 ghost use mathlib.Core.List.{List, _++_};
@@ -25,12 +26,6 @@ pub enum TableAnswer {
 pub enum Reached {
     To(usize),
     Malformed,
-}
-
-fn wide(x: u8) -> usize
-    ensures { λ r. ⌜ (r ≡ x) × (r < 0x100) ⌝ }
-{
-    x as usize
 }
 
 fn number_at(table: &[u8], at: usize) -> usize

@@ -4,6 +4,7 @@ use books::BookAnswer;
 use limits::PATTERN;
 use limits::RULES;
 use sentences::Admission;
+use words::wide;
 ghost use mathlib.Core.Path.{_≡_};
 ghost use Prim.Native.Nat.{ℕ, _+_, _≤_, _<_};
 ghost use mathlib.Core.List.{reverse};
@@ -52,12 +53,6 @@ fn rewrite_leftmost(s: &mut [u8], u: &[u8], p: usize, tag: u8)
         }
         i += 1;
     }
-}
-
-fn wide(x: u8) -> usize
-    ensures { λ r. ⌜ r ≡ x ⌝ }
-{
-    x as usize
 }
 
 // The rule i of the arrays, applied to s.

@@ -104,6 +104,13 @@ module _ (g : Grid) (P : ℕ → ℕ → ℕ → Type 0) where
   pub kept-wider : (Q : ℕ → ℕ → ℕ → Type 0) (W X : List ℕ) → Kept g W X Q → ((r c e : ℕ) → Q r c e → P r c e) → Kept g W X P
   kept-wider Q W X a more = record { long = a .long; same = λ r c e hc he out. a .same r c e hc he (λ p. out (more r c e p)) }
 
+-- a note is written among those of some rows
+pub spare-put : (g : Grid) (base n lo hi : ℕ) (W X : List ℕ) (q e v : ℕ) → q < n → lo ≤ e → e < hi → Put g W X (base + q) (g .tags) e v
+    → Kept g W X (Spare g base (base + n) lo hi)
+spare-put g base n lo hi W X q e v h from to p =
+    kept-wider g (Spare g base (base + n) lo hi) (Entry (base + q) (g .tags) e) W X (p .kept)
+    (λ r' c' e' i. (omega (arith, i .0), omega (arith, i .0), i .1, omega (arith, i .2), omega (arith, i .2)))
+
 -- one more row's entry is zero
 module _ (g : Grid) (base n e : ℕ) where
   pub cleared-start : (W : List ℕ) → Cleared g W W base n e 0
@@ -114,8 +121,7 @@ module _ (g : Grid) (base n e : ℕ) where
       record {
         kept =
             kept-then g (Spare g base (base + n) e (e + 1)) W X Y (c .kept)
-            (kept-wider g (Spare g base (base + n) e (e + 1)) (Entry (base + j) (g .tags) e) X Y (p .kept)
-            (λ r' c' e' i. (omega (arith, i .0), omega (arith, i .0), i .1, omega (arith, i .2), omega (arith, i .2))));
+            (spare-put g base n e (e + 1) X Y j e 0 h (omega arith) (omega arith) p);
         zero = λ q hq. by q (below-suc q j (omega arith));
       }
     where

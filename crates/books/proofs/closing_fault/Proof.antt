@@ -2,14 +2,13 @@
 use Prim.Native.Nat.{_-_}
 use native.Mathlib.Omega.{arith}
 use borrow.Author.Needs.{needs}
-use mathlib.Core.Path.{_∙_, sym, ap}
 use Rattle.books.specs.Kept.{Kept, kept}
 use Rattle.books.proofs.Kept.{closing-empty, closing-outside, closing-same, closing-none}
 use Rattle.books.proofs.closing_fault.Statement.{statement}
 use Rattle.books.proofs.closing_fault.Tie as tie
 use Rattle.books.proofs.closing_fault.Reads as reads
 use Rattle.books.proofs.closing_fault.Lts as lts
-use Rattle.books.proofs.wide.Reads as wide-reads
+use Rattle.words.proofs.wide.Reads as wide-reads
 
 abbrev arrays : tie.Start → Kept
 arrays s = kept (s .args .rows .now) (s .args .lengths .now) (s .args .places .now) (s .args .tags .now)

@@ -12,7 +12,7 @@ use Rattle.compiler.proofs.add_at.Tie as tie
 use Rattle.compiler.proofs.add_at.Reads as reads
 use Rattle.compiler.proofs.add_at.Lts as lts
 use Rattle.addition.proofs.add_rule.Reads as add-rule-reads
-use Rattle.compiler.proofs.wide.Reads as wide-reads
+use Rattle.words.proofs.wide.Reads as wide-reads
 
 abbrev arrays : tie.Start → Kept
 arrays st = kept (st .args .rows .now) (st .args .lengths .now) (st .args .places .now) (st .args .tags .now)
@@ -63,7 +63,7 @@ add-rule-requires c κs =
     let st = c .before .before .before .before .before .before .before .before in
     let a = st .args in
     let r = ruleAt (arrays st) (a .i) in
-    subst (λ (p : ℕ). Addable (a .g) (a .work .now) (a .n) (a .ceiling) (rule (r .pattern) p (r .tag))) (sym (c .before .before .before .wide .ensures)) (st .pre .1 .1)
+    subst (λ (p : ℕ). Addable (a .g) (a .work .now) (a .n) (a .ceiling) (rule (r .pattern) p (r .tag))) (sym (c .before .before .before .wide .ensures .0)) (st .pre .1 .1)
 
 -- src/lib.rt:65:1
 same-length : tie.Need-same-length
@@ -76,7 +76,7 @@ returns c =
     let a = st .args in
     let r = ruleAt (arrays st) (a .i) in
     let u = c .before .before .add-rule in
-    subst (λ (p : ℕ). Added (a .g) (a .work .now) (u .last .0) (a .n) (a .ceiling) (rule (r .pattern) p (r .tag)) (u .result)) (c .before .before .before .before .before .before .wide .ensures) (u .ensures)
+    subst (λ (p : ℕ). Added (a .g) (a .work .now) (u .last .0) (a .n) (a .ceiling) (rule (r .pattern) p (r .tag)) (u .result)) (c .before .before .before .before .before .before .wide .ensures .0) (u .ensures)
 
 pub add-at-spec : {M : Type 1} → statement M
 add-at-spec =

@@ -10,7 +10,7 @@ use Rattle.compiler.proofs.compile_read.Tie as tie
 use Rattle.compiler.proofs.compile_read.Reads as reads
 use Rattle.compiler.proofs.compile_read.Lts as lts
 use Rattle.compiler.proofs.compile_rules.Reads as compile-rules-reads
-use Rattle.compiler.proofs.wide.Reads as wide-reads
+use Rattle.words.proofs.wide.Reads as wide-reads
 use Rattle.compiler.proofs.wipe.Reads as wipe-reads
 
 abbrev the-arrays : tie.Start → Arrays
@@ -41,21 +41,21 @@ mul-entries-3 : tie.Need-mul-entries-3
 mul-entries-3 c =
     let st = c .before .before .before .before .before in
     let w = c .before .before .wide in
-    omega (arith, (product-small (16 * st .args .ceiling) (w .result + 1) (5 * st .args .m + 8) (omega (arith, st .pre .most)) (omega (arith, w .ensures, st .pre .tags)) (omega (arith, st .pre .few))) .0)
+    omega (arith, (product-small (16 * st .args .ceiling) (w .result + 1) (5 * st .args .m + 8) (omega (arith, st .pre .most)) (omega (arith, w .ensures .0, st .pre .tags)) (omega (arith, st .pre .few))) .0)
 
 -- src/lib.rt:141:19
 mul-entries-4 : tie.Need-mul-entries-4
 mul-entries-4 c =
     let st = c .before .before .before .before .before .before in
     let w = c .before .before .before .wide in
-    omega (arith, (product-small (16 * st .args .ceiling) (w .result + 1) (5 * st .args .m + 8) (omega (arith, st .pre .most)) (omega (arith, w .ensures, st .pre .tags)) (omega (arith, st .pre .few))) .1)
+    omega (arith, (product-small (16 * st .args .ceiling) (w .result + 1) (5 * st .args .m + 8) (omega (arith, st .pre .most)) (omega (arith, w .ensures .0, st .pre .tags)) (omega (arith, st .pre .few))) .1)
 
 -- src/lib.rt:143:9
 returns : tie.Need-returns
 returns c =
     let st = c .before .before .before .before .before .before .before in
     let w = c .before .before .before .before .wide in
-    short (st .args .k) (st .args .ceiling) (st .args .m) (the-arrays st) (st .pre) (w .result) (w .ensures) (st .args .work .now) (st .args .out .now) (omega arith) _ refl
+    short (st .args .k) (st .args .ceiling) (st .args .m) (the-arrays st) (st .pre) (w .result) (w .ensures .0) (st .args .work .now) (st .args .out .now) (omega arith) _ refl
 
 -- src/lib.rt:145:9
 compile-rules-requires : tie.Need-compile-rules-requires
@@ -63,7 +63,7 @@ compile-rules-requires c κs =
     let st = c .before .before .before .before .before .before .before .before .before in
     let w = c .before .before .before .before .before .before .wide in
     compilable (w .result) (st .args .ceiling) (st .args .m) (the-arrays st) (st .args .work .now)
-    (readable (st .args .k) (st .args .ceiling) (st .args .m) (the-arrays st) (st .pre) (w .result) (w .ensures)) (omega arith)
+    (readable (st .args .k) (st .args .ceiling) (st .args .m) (the-arrays st) (st .pre) (w .result) (w .ensures .0)) (omega arith)
 
 -- src/lib.rt:146:5
 wipe-requires : tie.Need-wipe-requires
@@ -83,7 +83,7 @@ returns-2 c =
     let st = c .before .before .before .before .before .before .before .before .before .before .before .before .before .before .before .before .before .before in
     let w = c .before .before .before .before .before .before .before .before .before .before .before .before .before .before .before .wide in
     let u = c .before .before .before .before .before .before .before .before .compile-rules in
-    ended (st .args .k) (st .args .ceiling) (st .args .m) (the-arrays st) (st .pre) (w .result) (w .ensures) (st .args .work .now) (u .last .0) _ (st .args .out .now) _ _ (omega arith) (u .ensures .0) (u .ensures .1)
+    ended (st .args .k) (st .args .ceiling) (st .args .m) (the-arrays st) (st .pre) (w .result) (w .ensures .0) (st .args .work .now) (u .last .0) _ (st .args .out .now) _ _ (omega arith) (u .ensures .0) (u .ensures .1)
     (c .before .before .wipe .ensures)
 
 pub compile-read-spec : {M : Type 1} → statement M

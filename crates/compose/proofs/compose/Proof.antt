@@ -7,9 +7,8 @@ use Rattle.workspace.specs.Cells.{In-rows}
 use Rattle.workspace.specs.Holds.{standing}
 use Rattle.workspace.proofs.Cells.{kept-then}
 use Rattle.transducers.specs.Compose.{product}
-use Rattle.compose.specs.Pairs.{Searching}
 use Rattle.compose.proofs.Pairs.{room, pairs-some, spare-inside, composable-kept, first-same, second-same, composed}
-use Rattle.compose.proofs.Reached.{searching-start, searching-next}
+use Rattle.compose.proofs.Reached.{Searching, searching-start, searching-next}
 use Rattle.compose.proofs.compose.Statement.{statement}
 use Rattle.compose.proofs.compose.Tie as tie
 use Rattle.compose.proofs.compose.Reads as reads

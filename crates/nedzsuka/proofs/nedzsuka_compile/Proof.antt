@@ -15,6 +15,12 @@ use Rattle.nedzsuka.proofs.pack_compile.Reads as pack-compile-reads
 compile-requires : tie.Need-compile-requires
 compile-requires c κs = search needs
 
+-- src/lib.rt:56:1
+returns : tie.Need-returns
+returns c =
+    let e = c .before .before .before .before .before .compile .ensures in
+    (c .pack-compile .ensures ∙ ap packed (e .0), e .1)
+
 -- src/lib.rt:63:5
 pack-compile-requires : tie.Need-pack-compile-requires
 pack-compile-requires c κs =
@@ -28,12 +34,6 @@ same-length c = search needs
 -- src/lib.rt:56:1
 same-length-2 : tie.Need-same-length-2
 same-length-2 c = search needs
-
--- src/lib.rt:56:1
-returns : tie.Need-returns
-returns c =
-    let e = c .before .before .before .before .before .compile .ensures in
-    (c .pack-compile .ensures ∙ ap packed (e .0), e .1)
 
 pub nedzsuka-compile-spec : {M : Type 1} → statement M
 nedzsuka-compile-spec =

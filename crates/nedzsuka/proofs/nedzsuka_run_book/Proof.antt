@@ -15,6 +15,12 @@ use Rattle.tagger.proofs.run_book.Reads as run-book-reads
 run-book-requires : tie.Need-run-book-requires
 run-book-requires c κs = search needs
 
+-- src/lib.rt:67:1
+returns : tie.Need-returns
+returns c =
+    let e = c .before .before .before .run-book .ensures in
+    (c .pack-run .ensures ∙ ap packed (e .0), e .1)
+
 -- src/lib.rt:73:5
 pack-run-requires : tie.Need-pack-run-requires
 pack-run-requires c κs =
@@ -24,12 +30,6 @@ pack-run-requires c κs =
 -- src/lib.rt:67:1
 same-length : tie.Need-same-length
 same-length c = search needs
-
--- src/lib.rt:67:1
-returns : tie.Need-returns
-returns c =
-    let e = c .before .before .before .run-book .ensures in
-    (c .pack-run .ensures ∙ ap packed (e .0), e .1)
 
 pub nedzsuka-run-book-spec : {M : Type 1} → statement M
 nedzsuka-run-book-spec =

@@ -15,6 +15,12 @@ use Rattle.tables.proofs.run_table.Reads as run-table-reads
 run-table-requires : tie.Need-run-table-requires
 run-table-requires c κs = search needs
 
+-- src/lib.rt:77:1
+returns : tie.Need-returns
+returns c =
+    let e = c .before .before .before .run-table .ensures in
+    (c .pack-run .ensures ∙ ap packed (e .0), e .1)
+
 -- src/lib.rt:83:5
 pack-run-requires : tie.Need-pack-run-requires
 pack-run-requires c κs =
@@ -24,12 +30,6 @@ pack-run-requires c κs =
 -- src/lib.rt:77:1
 same-length : tie.Need-same-length
 same-length c = search needs
-
--- src/lib.rt:77:1
-returns : tie.Need-returns
-returns c =
-    let e = c .before .before .before .run-table .ensures in
-    (c .pack-run .ensures ∙ ap packed (e .0), e .1)
 
 pub nedzsuka-run-table-spec : {M : Type 1} → statement M
 nedzsuka-run-table-spec =

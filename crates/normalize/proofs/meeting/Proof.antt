@@ -3,7 +3,7 @@ use Rattle.workspace.specs.Holds.{standing}
 use mathlib.Core.List.{_++_}
 use Prim.Native.Nat.{_<_}
 use Rattle.normalize.proofs.Lower.{front-short, front-stops, front-goes, meeting-le}
-use Rattle.workspace.proofs.Views.{row-below, final-inner, output-inner, final-size, output-size, next-at-below}
+use Rattle.workspace.proofs.Views.{final-inner, output-inner, final-size, next-at-below}
 use native.Mathlib.Omega.{arith}
 use borrow.Author.Needs.{needs}
 use Rattle.normalize.proofs.meeting.Statement.{statement}
@@ -12,7 +12,7 @@ use Rattle.normalize.proofs.meeting.Reads as reads
 use Rattle.normalize.proofs.meeting.Lts as lts
 use Rattle.workspace.proofs.common.Reads as common-reads
 use Rattle.workspace.proofs.get.Reads as get-reads
-use Rattle.workspace.proofs.lesser.Reads as lesser-reads
+use Rattle.words.proofs.lesser.Reads as lesser-reads
 
 -- src/lib.rt:28:28
 add-get : tie.Need-add-get

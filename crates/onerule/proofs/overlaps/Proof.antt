@@ -10,7 +10,7 @@ use Rattle.onerule.proofs.overlaps.Statement.{statement}
 use Rattle.onerule.proofs.overlaps.Tie as tie
 use Rattle.onerule.proofs.overlaps.Reads as reads
 use Rattle.onerule.proofs.overlaps.Lts as lts
-use Rattle.onerule.proofs.wide.Reads as wide-reads
+use Rattle.words.proofs.wide.Reads as wide-reads
 
 abbrev Inv-loop : tie.InvT-loop
 Inv-loop u j a s i₀ i = (s + i ≤ j) × (prefix (drop s (matched u j a)) u ≡ prefix (drop (s + i) (matched u j a)) (drop i u))

@@ -6,7 +6,7 @@ use Rattle.onerule.proofs.push_part.Statement.{statement}
 use Rattle.onerule.proofs.push_part.Tie as tie
 use Rattle.onerule.proofs.push_part.Reads as reads
 use Rattle.onerule.proofs.push_part.Lts as lts
-use Rattle.onerule.proofs.wide.Reads as wide-reads
+use Rattle.words.proofs.wide.Reads as wide-reads
 use Rattle.workspace.proofs.push.Reads as push-reads
 
 abbrev Inv-loop : tie.InvT-loop

@@ -1,10 +1,10 @@
-use Rattle.onerule.proofs.Words.{goes-le, goes-below, says-end, says-match, says-short, says-back-all}
+use Rattle.onerule.proofs.Words.{goes-le, says-end, says-match, says-short, says-back-all}
 use Rattle.workspace.proofs.Cells.{more-size, written-more, written-is, part-length}
 use Rattle.workspace.specs.Cells.{part}
 use lib.ListN.{length}
-use Prim.Native.Nat.{_+_, _-_, min, ℕ}
+use Prim.Native.Nat.{_+_, _-_, ℕ}
 use mathlib.Core.List.{[], _∷_, _++_, List}
-use mathlib.Core.Path.{sym, ap, _∙_}
+use mathlib.Core.Path.{ap, _∙_}
 use native.Mathlib.Omega.{arith}
 use borrow.Author.Needs.{needs}
 use Rattle.onerule.proofs.write_output.Statement.{statement}
@@ -12,7 +12,7 @@ use Rattle.onerule.proofs.write_output.Tie as tie
 use Rattle.onerule.proofs.write_output.Reads as reads
 use Rattle.onerule.proofs.write_output.Lts as lts
 use Rattle.onerule.proofs.push_part.Reads as push-part-reads
-use Rattle.onerule.proofs.wide.Reads as wide-reads
+use Rattle.words.proofs.wide.Reads as wide-reads
 use Rattle.workspace.proofs.clear.Reads as clear-reads
 use Rattle.workspace.proofs.push.Reads as push-reads
 

@@ -12,7 +12,7 @@ use Rattle.sentences.proofs.count_changes.Tie as tie
 use Rattle.sentences.proofs.count_changes.Reads as reads
 use Rattle.sentences.proofs.count_changes.Lts as lts
 use Rattle.sentences.proofs.count_near.Reads as count-near-reads
-use Rattle.sentences.proofs.lesser.Reads as lesser-reads
+use Rattle.words.proofs.lesser.Reads as lesser-reads
 
 abbrev Inv-loop : tie.InvT-loop
 Inv-loop a b n₀ i₀ n i = (i ≤ length a) × (n ≤ i) × (n + differences (drop i a) (drop i b) ≡ differences a b)

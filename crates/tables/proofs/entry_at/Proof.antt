@@ -6,7 +6,7 @@ use Rattle.tables.proofs.entry_at.Statement.{statement}
 use Rattle.tables.proofs.entry_at.Tie as tie
 use Rattle.tables.proofs.entry_at.Reads as reads
 use Rattle.tables.proofs.entry_at.Lts as lts
-use Rattle.tables.proofs.wide.Reads as wide-reads
+use Rattle.words.proofs.wide.Reads as wide-reads
 
 wide-requires : tie.Need-wide-requires
 wide-requires c κs = search needs

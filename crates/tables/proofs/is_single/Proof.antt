@@ -1,5 +1,5 @@
 -- `tables::is_single` meets its contract.
-use Prim.Native.Nat.{ℕ, _+_}
+use Prim.Native.Nat.{_+_}
 use native.Mathlib.Omega.{arith}
 use borrow.Author.Needs.{needs}
 use mathlib.Core.Path.{_≡_}
@@ -8,7 +8,7 @@ use Rattle.tables.proofs.is_single.Tie as tie
 use Rattle.tables.proofs.is_single.Reads as reads
 use Rattle.tables.proofs.is_single.Lts as lts
 use Rattle.tables.proofs.number_at.Reads as number-at-reads
-use Rattle.tables.proofs.wide.Reads as wide-reads
+use Rattle.words.proofs.wide.Reads as wide-reads
 
 sub-if1 : tie.Need-sub-if1
 sub-if1 c = search needs

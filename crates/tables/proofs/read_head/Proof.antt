@@ -8,7 +8,7 @@ use Rattle.tables.proofs.read_head.Tie as tie
 use Rattle.tables.proofs.read_head.Reads as reads
 use Rattle.tables.proofs.read_head.Lts as lts
 use Rattle.tables.proofs.number_at.Reads as number-at-reads
-use Rattle.tables.proofs.wide.Reads as wide-reads
+use Rattle.words.proofs.wide.Reads as wide-reads
 
 returns : tie.Need-returns
 returns c =

@@ -12,7 +12,7 @@ use Rattle.tables.proofs.read_row.Tie as tie
 use Rattle.tables.proofs.read_row.Reads as reads
 use Rattle.tables.proofs.read_row.Lts as lts
 use Rattle.tables.proofs.read_steps.Reads as read-steps-reads
-use Rattle.tables.proofs.wide.Reads as wide-reads
+use Rattle.words.proofs.wide.Reads as wide-reads
 use Rattle.tables.proofs.word_end.Reads as word-end-reads
 use Rattle.tables.proofs.entry.Reads as entry-reads
 

@@ -1,5 +1,5 @@
 -- `tables::read_step` meets its contract.
-use Prim.Native.Nat.{ℕ, _+_}
+use Prim.Native.Nat.{_+_}
 use native.Mathlib.Omega.{arith}
 use borrow.Author.Needs.{needs}
 use borrow.Author.Tests.{not-false}
@@ -14,7 +14,7 @@ use Rattle.tables.proofs.entry.Reads as entry-reads
 use Rattle.tables.proofs.is_single.Reads as is-single-reads
 use Rattle.tables.proofs.number_at.Reads as number-at-reads
 use Rattle.tables.proofs.read_any_step.Reads as read-any-step-reads
-use Rattle.tables.proofs.wide.Reads as wide-reads
+use Rattle.words.proofs.wide.Reads as wide-reads
 
 is-single-requires : tie.Need-is-single-requires
 is-single-requires c κs = search needs

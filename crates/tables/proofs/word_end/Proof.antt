@@ -1,5 +1,5 @@
 -- `tables::word_end` meets its contract. At each turn the same end lies ahead.
-use Prim.Native.Nat.{ℕ, _≤_, _<_, _-_, _+_, _*_}
+use Prim.Native.Nat.{_≤_, _-_, _+_, _*_}
 use native.Mathlib.Omega.{arith}
 use borrow.Author.Needs.{needs}
 use mathlib.Core.Path.{_≡_}
@@ -10,7 +10,7 @@ use Rattle.tables.proofs.word_end.Statement.{statement}
 use Rattle.tables.proofs.word_end.Tie as tie
 use Rattle.tables.proofs.word_end.Reads as reads
 use Rattle.tables.proofs.word_end.Lts as lts
-use Rattle.tables.proofs.wide.Reads as wide-reads
+use Rattle.words.proofs.wide.Reads as wide-reads
 
 abbrev Inv-loop : tie.InvT-loop
 Inv-loop table from command k at₀ at =

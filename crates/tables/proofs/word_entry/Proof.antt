@@ -9,7 +9,7 @@ use Rattle.tables.proofs.word_entry.Reads as reads
 use Rattle.tables.proofs.word_entry.Lts as lts
 use Rattle.tables.proofs.capped.Reads as capped-reads
 use Rattle.tables.proofs.entry.Reads as entry-reads
-use Rattle.tables.proofs.wide.Reads as wide-reads
+use Rattle.words.proofs.wide.Reads as wide-reads
 
 sub-count : tie.Need-sub-count
 sub-count c = search needs

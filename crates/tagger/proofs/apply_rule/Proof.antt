@@ -12,7 +12,7 @@ use Rattle.tagger.proofs.apply_rule.Tie as tie
 use Rattle.tagger.proofs.apply_rule.Reads as reads
 use Rattle.tagger.proofs.apply_rule.Lts as lts
 use Rattle.tagger.proofs.rewrite_leftmost.Reads as rewrite-leftmost-reads
-use Rattle.tagger.proofs.wide.Reads as wide-reads
+use Rattle.words.proofs.wide.Reads as wide-reads
 
 abbrev arrays : tie.Start → Kept
 arrays st = kept (st .args .rows .now) (st .args .lengths .now) (st .args .places .now) (st .args .tags .now)
@@ -61,7 +61,7 @@ slice-aggregate-rewrite-leftmost c =
 rewrite-leftmost-requires : tie.Need-rewrite-leftmost-requires
 rewrite-leftmost-requires c κs =
     let st = c .before .before .before .before .before .before .before .before in
-    omega (arith, pattern-long (arrays st) (st .pre .0) (st .args .i) (st .pre .1 .0), c .before .before .before .wide .ensures, st .pre .1 .1)
+    omega (arith, pattern-long (arrays st) (st .pre .0) (st .args .i) (st .pre .1 .0), c .before .before .before .wide .ensures .0, st .pre .1 .1)
 
 -- src/lib.rt:65:1
 same-length : tie.Need-same-length
@@ -73,7 +73,7 @@ returns c =
     let st = c .before .before .before .before .before .before .before .before .before .before .before in
     let r = ruleAt (arrays st) (st .args .i) in
     c .before .before .rewrite-leftmost .ensures
-    ∙ ap (λ (p : ℕ). rewrite (r .pattern) (set (r .pattern) p (r .tag)) (st .args .s .now)) (c .before .before .before .before .before .before .wide .ensures)
+    ∙ ap (λ (p : ℕ). rewrite (r .pattern) (set (r .pattern) p (r .tag)) (st .args .s .now)) (c .before .before .before .before .before .before .wide .ensures .0)
 
 pub apply-rule-spec : {M : Type 1} → statement M
 apply-rule-spec =

@@ -1,5 +1,5 @@
 -- `console::text::decimal` stays within the text, and its number fits.
-use Prim.Native.Nat.{_≤_, _+_, _-_}
+use Prim.Native.Nat.{_≤_, _-_}
 use native.Mathlib.Omega.{arith}
 use borrow.Author.Needs.{needs}
 use mathlib.Core.Logic.{⊎-elim}
@@ -9,7 +9,7 @@ use Rattle.console.proofs.text.decimal.Tie as tie
 use Rattle.console.proofs.text.decimal.Reads as reads
 use Rattle.console.proofs.text.decimal.Lts as lts
 use Rattle.console.proofs.text.digit.Reads as digit-reads
-use Rattle.console.proofs.text.wide.Reads as wide-reads
+use Rattle.words.proofs.wide.Reads as wide-reads
 
 abbrev Inv-loop : tie.InvT-loop
 Inv-loop text n₀ i₀ n i = (n ≤ 1000255) × (i ≤ length text)

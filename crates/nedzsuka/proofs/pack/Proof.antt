@@ -1,0 +1,21 @@
+-- `nedzsuka::pack` meets its contract.
+use borrow.Author.Needs.{needs}
+use Rattle.nedzsuka.proofs.pack.Statement.{statement}
+use Rattle.nedzsuka.proofs.pack.Tie as tie
+use Rattle.nedzsuka.proofs.pack.Reads as reads
+use Rattle.nedzsuka.proofs.pack.Lts as lts
+
+-- src/lib.rt:21:5
+mul-result : tie.Need-mul-result
+mul-result c = search needs
+
+-- src/lib.rt:21:5
+add-result : tie.Need-add-result
+add-result c = search needs
+
+-- src/lib.rt:17:1
+returns : tie.Need-returns
+returns c = search needs
+
+pub pack-spec : {M : Type 1} → statement M
+pack-spec = tie.close (tie.spec mul-result add-result returns)
