@@ -49,7 +49,8 @@ enum nedzsuka_bound {
     NEDZSUKA_LONGEST_SENTENCE = 65535,  /* tags */
     NEDZSUKA_LONGEST_BOOK = 243,        /* bytes of a valid book: 2 + 16 * (3 + 6 * 2) + 1 */
     NEDZSUKA_LONGEST_TABLE = 2061157,   /* bytes of a well-formed table, compiled or not: 4 + 242 + 255 * 8082 + 1 */
-    NEDZSUKA_MOST_WORK = 17661952       /* entries of the work slice that are enough for every call: 16 * 256 * 49 * 88 */
+    NEDZSUKA_MOST_WORK = 17661952       /* entries of the work slice that are enough for every call: 16 * 256 * 49 * 88;
+                                           with two bytes each 35,323,904 bytes, about 34 MiB */
 };
 
 /* The refusals. */
@@ -86,6 +87,9 @@ enum nedzsuka_refusal_number {
    - 10 with i: given exactly if some leading part of the book, its first i rules with i from 1 to m, needs more than ceiling states in
      every sequential transducer that does what these rules do; the least such i is named.
    - 11: out_len is below the table's length.
+
+   nedzsuka_work_entries and nedzsuka_table_bytes, below, give lengths of work and out that are enough. K is the book's second byte;
+   where the number of rules is not known, 16, NEDZSUKA_MOST_RULES, is enough.
 
    The work slice keeps its numbers on the refusals before 10 (8, 1 to 7 and 9). On 10, on 11 and with a result its first
    16 * ceiling * (K + 1) * (5 * m + 8) entries are zero and the rest unchanged. What it holds before the call plays no part. */
@@ -127,9 +131,10 @@ static inline uint64_t nedzsuka_value(uint64_t answer)
     return answer >> 8;
 }
 
-/* The entries that compile asks of its work slice for a ceiling, the book's K and its number of rules: enough whenever the ceiling is 1
-   to 256, K 2 to 48 and the rules at most 16. For arguments outside these bounds, which compile refuses, it is 0. It is never above
-   NEDZSUKA_MOST_WORK, so that neither the product nor the number of bytes overflows where size_t has 32 bits. */
+/* The entries, of two bytes each, that compile asks of its work slice for a ceiling, the book's K and its number of rules. K is the
+   book's second byte; where the number of rules is not known, 16, NEDZSUKA_MOST_RULES, is enough. For a ceiling outside 1 to 256, K
+   outside 2 to 48 or more than 16 rules it is 0; compile refuses these whatever its slices are. It is never above NEDZSUKA_MOST_WORK,
+   so that neither the product nor the number of bytes overflows where size_t has 32 bits. */
 static inline size_t nedzsuka_work_entries(uint64_t ceiling, uint64_t tags, uint64_t rules)
 {
     if (ceiling < 1 || ceiling > NEDZSUKA_MOST_STATES || tags < NEDZSUKA_LEAST_TAGS || tags > NEDZSUKA_MOST_TAGS ||
@@ -139,7 +144,8 @@ static inline size_t nedzsuka_work_entries(uint64_t ceiling, uint64_t tags, uint
 }
 
 /* Bytes that are enough for the table of every book with this K, at most this many rules and at most this ceiling of states: a rule has
-   each state hold at most 5 tags more. For arguments outside the bounds it is 0. */
+   each state hold at most 5 tags more. K is the book's second byte; where the number of rules is not known, 16, NEDZSUKA_MOST_RULES,
+   is enough. For arguments outside the bounds it is 0. The ceiling is the last argument here and the first of nedzsuka_work_entries. */
 static inline size_t nedzsuka_table_bytes(uint64_t tags, uint64_t rules, uint64_t ceiling)
 {
     if (nedzsuka_work_entries(ceiling, tags, rules) == 0)
