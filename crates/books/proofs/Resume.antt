@@ -12,8 +12,8 @@ use Rattle.answers.specs.declared.Refusal.the-variants.{AtByte, AtRule, Bare}
 use Rattle.cascades.specs.Rule.{Cascade}
 use Rattle.books.specs.Kept.{Kept, Shaped, rulesDown}
 use Rattle.books.specs.Read.{read}
-use Rattle.books.specs.Answer.{sizes, bookOutcome, cascadeOutcome}
-use Rattle.books.specs.Resume.{Resumes, Reads, Whole, readCommands}
+use Rattle.books.specs.Answer.{sizes, bookOutcome}
+use Rattle.books.specs.Resume.{Resumes, Reads, Whole, readCommands, cascadeOutcome}
 use Rattle.books.specs.declared.BookAnswer.{BookAnswer}
 use Rattle.books.specs.declared.BookAnswer.the-variants.{Book, Refused}
 use Rattle.books.proofs.Kept.{down-length}

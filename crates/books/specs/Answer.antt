@@ -1,11 +1,9 @@
 -- Document 01's values for each case of `BookAnswer`.
 use Prim.Native.Nat.{ℕ}
-use mathlib.Core.List.{List, reverse}
 use lib.ListN.{length}
 use Rattle.answers.specs.Outcome.{Outcome, result, refused}
 use Rattle.answers.specs.Answer.{refusal}
 use Rattle.cascades.specs.Rule.{Cascade}
-use Rattle.books.specs.Kept.{Kept, rulesDown}
 use Rattle.books.specs.declared.BookAnswer.{BookAnswer}
 use Rattle.books.specs.declared.BookAnswer.the-variants.{Book, Refused}
 
@@ -21,8 +19,3 @@ sizes (refused n p) = refused n p
 abbrev pub bookOutcome : BookAnswer → Outcome Sizes
 bookOutcome (Book k m) = result (record { tags = k; rules = m })
 bookOutcome (Refused r) = refusal r
-
--- the answer with the rules that the arrays hold
-abbrev pub cascadeOutcome : BookAnswer → Kept → Outcome Cascade
-cascadeOutcome (Book k m) a = result (record { tags = k; rules = reverse (rulesDown a m) })
-cascadeOutcome (Refused r) a = refusal r

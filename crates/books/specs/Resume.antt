@@ -1,17 +1,21 @@
 -- How the reader's functions follow the definition: what one of them answers is where the reading goes on.
 use Prim.Native.Nat.{ℕ, _≤_}
 use mathlib.Core.Path.{_≡_}
-use mathlib.Core.List.{List}
+use mathlib.Core.List.{List, reverse}
 use lib.ListN.{length, drop}
 use Rattle.limits.specs.Limits.{most-rules}
-use Rattle.answers.specs.Outcome.{Outcome}
+use Rattle.answers.specs.Outcome.{Outcome, result}
 use Rattle.answers.specs.Answer.{refusal}
 use Rattle.cascades.specs.Rule.{Cascade}
 use Rattle.books.specs.Kept.{Kept, Shaped, rulesDown}
 use Rattle.books.specs.Read.{command, readFrom, read}
-use Rattle.books.specs.Answer.{cascadeOutcome}
 use Rattle.books.specs.declared.BookAnswer.{BookAnswer}
 use Rattle.books.specs.declared.BookAnswer.the-variants.{Book, Refused}
+
+-- the answer with the rules that the arrays hold
+abbrev pub cascadeOutcome : BookAnswer → Kept → Outcome Cascade
+cascadeOutcome (Book k m) a = result (record { tags = k; rules = reverse (rulesDown a m) })
+cascadeOutcome (Refused r) a = refusal r
 
 -- reading the bytes s from `at`, where a command is to come and the arrays hold m rules
 abbrev pub readCommands : List ℕ → ℕ → ℕ → Kept → ℕ → Outcome Cascade

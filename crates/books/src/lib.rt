@@ -10,8 +10,8 @@ ghost use Rattle.answers.specs.declared.Refusal.the-variants.{AtByte};
 ghost use Rattle.limits.specs.Limits.{most-rules};
 ghost use Rattle.books.specs.Read.{read, closing};
 ghost use Rattle.books.specs.Kept.{Kept, arrays, Shaped, rulesDown};
-ghost use Rattle.books.specs.Answer.{sizes, bookOutcome, cascadeOutcome};
-ghost use Rattle.books.specs.Resume.{Resumes, Reads, Whole, readCommands};
+ghost use Rattle.books.specs.Answer.{sizes, bookOutcome};
+ghost use Rattle.books.specs.Resume.{Resumes, Reads, Whole, readCommands, cascadeOutcome};
 
 pub enum BookAnswer {
     Book { tags: u8, rules: usize },

@@ -6,8 +6,7 @@ use mathlib.Core.Logic.{_⊎_, inl, inr, _↔_}
 use mathlib.Core.Bool.{Bool, true, false}
 use mathlib.Core.List.{List, [], _∷_, _++_, append-nil, append-cancel-left, append-cancel-right}
 use lib.ListN.{length, drop, length-append}
-use Rattle.words.specs.Word.{prefix}
-use Rattle.words.specs.Front.{Prefix}
+use Rattle.words.specs.Word.{prefix, Prefix}
 use Rattle.words.proofs.Word.{prefix-split, prefix-append, prefix-other}
 use Rattle.cascades.specs.Rewrite.{rewrite}
 use Rattle.cascades.specs.Leftmost.{OccursAt, Occurs, Leftmost, Behavior}

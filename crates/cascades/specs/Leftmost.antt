@@ -3,7 +3,7 @@ use Prim.Native.Nat.{ℕ}
 use mathlib.Core.Path.{_≡_}
 use mathlib.Core.Logic.{_⊎_}
 use mathlib.Core.List.{List, [], _∷_, _++_}
-use Rattle.words.specs.Front.{Prefix}
+use Rattle.words.specs.Word.{Prefix}
 
 -- u occurs in w behind z
 abbrev pub OccursAt : List ℕ → List ℕ → List ℕ → Type 0

@@ -13,15 +13,16 @@ use Rattle.limits.specs.Limits.{most-states, longest-pattern, work-entries}
 use Rattle.answers.specs.Outcome.{Outcome, result, refused, nothing, byte, rule, andThen}
 use Rattle.cascades.specs.Rule.{Rule, Cascade}
 use Rattle.books.specs.Book.{Valid}
-use Rattle.books.specs.Read.{Stage, opening, size, command, place, new-tag, pattern-tag, ended, Next, go, refuse, step, readFrom, read}
+use Rattle.books.specs.Read.{read}
 use Rattle.books.proofs.Encode.{reads-exactly}
+use Rattle.books.proofs.Refusal.{BookRefusal, book-refusal}
 use Rattle.transducers.specs.Table.{Table}
 use Rattle.minimal.specs.OneRule.{ruleTable}
 use Rattle.minimal.specs.TableOf.{add, tableOf}
 use Rattle.minimal.proofs.TableOf.{good, tableOf-append}
 use Rattle.tables.specs.Bytes.{encode}
 use Rattle.tables.specs.Valid.{ValidTable}
-use Rattle.compilation.specs.Demand.{Enough}
+use Rattle.compilation.specs.Demand.{Premises}
 use Rattle.compilation.specs.Compile.{withRules, compileRules, fitting, compileCascade, compileAnswer}
 
 -- the table of each leading part of j rules, j from 1 to m, has at most n states
@@ -122,74 +123,42 @@ table-valid c v few =
 -- ---- the layers of the answer, taken off one by one
 
 -- the answer once the book is read and nothing before 10 is refused
-pub enough-answer : (book : List ℕ) (n work room : ℕ) (c : Cascade) → read book ≡ result c → Enough n work c
+pub premises-answer : (book : List ℕ) (n work room : ℕ) (c : Cascade) → Premises book n work c
     → compileAnswer book n work room ≡ andThen (compileRules (c .tags) n (c .rules)) (λ t. fitting room (encode (c .tags) t))
-enough-answer book n work room c e h =
+premises-answer book n work room c h =
     cc (
-      e,
+      h .reads,
       le-leb 1 n (h .some),
       le-leb n most-states (h .most),
       le-leb (work-entries n (c .tags) (length (c .rules))) work (h .entries),
     )
 
--- a reading's refusal names a byte
-abbrev pub NamesByte : Outcome Cascade → Type 0
-NamesByte (result c) = Unit {0}
-NamesByte (refused n nothing) = ⊥
-NamesByte (refused n (byte b)) = Unit {0}
-NamesByte (refused n (rule i)) = ⊥
+-- the outcomes of compileAnswer: a refusal that comes before 10 and names no rule, or what becomes of a valid book
+pub data Ends (book : List ℕ) (n work room : ℕ) : Outcome (List ℕ) → Type 0 where
+  names-nothing : (j : ℕ) → 1 ≤ j → j ≤ 9 → Ends book n work room (refused j nothing)
+  names-byte : (j b : ℕ) → 1 ≤ j → j ≤ 9 → Ends book n work room (refused j (byte b))
+  goes-on : (c : Cascade) → Valid c → Premises book n work c
+      → Ends book n work room (andThen (compileRules (c .tags) n (c .rules)) (λ t. fitting room (encode (c .tags) t)))
 
-pub names-byte : (s : Stage) (at : ℕ) (bs : List ℕ) → NamesByte (readFrom s at bs)
-names-byte opening at [] = tt
-names-byte size at [] = tt
-names-byte (command k rs) at [] = tt
-names-byte (place k rs) at [] = tt
-names-byte (new-tag k rs p) at [] = tt
-names-byte (pattern-tag k r rs) at [] = tt
-names-byte (ended k rs) at [] = tt
-names-byte s at (b ∷ bs) = by (step s b) (λ s'. names-byte s' (suc at) bs)
-  where
-    by : (n : Next) → ((s' : Stage) → NamesByte (readFrom s' (suc at) bs))
-        → NamesByte (elim n as (λ x. Outcome Cascade) [ go s' ↦ readFrom s' (suc at) bs | refuse m ↦ refused m (byte at) ])
-    by (go s') f = f s'
-    by (refuse m) f = tt
-
--- where the answer is a table's bytes or names a rule, the book is valid and nothing before 10 is refused
-abbrev pub Late : Outcome (List ℕ) → Type 0
-Late (result w) = Unit {0}
-Late (refused n nothing) = ⊥
-Late (refused n (byte b)) = ⊥
-Late (refused n (rule i)) = Unit {0}
-
-pub record Reached (book : List ℕ) (n work : ℕ) : Type 0 where
-  pub cascade : Cascade
-  pub reads : read book ≡ result cascade
-  pub valid : Valid cascade
-  pub enough : Enough n work cascade
-
-pub reached : (book : List ℕ) (n work room : ℕ) → Late (compileAnswer book n work room) → Reached book n work
-reached book n work room = by-ceiling (leb 1 n) (leb n most-states) refl refl
+pub ends : (book : List ℕ) (n work room : ℕ) → Ends book n work room (compileAnswer book n work room)
+ends book n work room = by-ceiling (leb 1 n) (leb n most-states) refl refl
   where
     by-entries : (c : Cascade) → read book ≡ result c → 1 ≤ n → n ≤ most-states → (b : Bool) → leb (work-entries n (c .tags) (length (c .rules))) work ≡ b
-        → Late (elim b as (λ x. Outcome (List ℕ)) [ false ↦ refused 9 nothing | true ↦ andThen (compileRules (c .tags) n (c .rules)) (λ t. fitting room (encode (c .tags) t)) ])
-        → Reached book n work
-    by-entries c e s m true f h =
-        record {
-          cascade = c;
-          reads = e;
-          valid = reads-exactly book c .0 e .0;
-          enough = record { some = s; most = m; entries = leb-true (work-entries n (c .tags) (length (c .rules))) work f };
-        }
-    by-entries c e s m false f h = absurd h
+        → Ends book n work room
+        (elim b as (λ x. Outcome (List ℕ)) [ false ↦ refused 9 nothing | true ↦ andThen (compileRules (c .tags) n (c .rules)) (λ t. fitting room (encode (c .tags) t)) ])
+    by-entries c e s m true f =
+        goes-on c (reads-exactly book c .0 e .0)
+        (record { reads = e; some = s; most = m; entries = leb-true (work-entries n (c .tags) (length (c .rules))) work f })
+    by-entries c e s m false f = names-nothing 9 (omega arith) (omega arith)
 
-    by-book : (o : Outcome Cascade) → NamesByte o → read book ≡ o → 1 ≤ n → n ≤ most-states → Late (andThen o (compileCascade n work room)) → Reached book n work
-    by-book (result c) x e s m h = by-entries c e s m (leb (work-entries n (c .tags) (length (c .rules))) work) refl h
-    by-book (refused j nothing) x e s m h = absurd x
-    by-book (refused j (byte b)) x e s m h = absurd h
-    by-book (refused j (rule i)) x e s m h = absurd x
+    by-book : (o : Outcome Cascade) → BookRefusal o → read book ≡ o → 1 ≤ n → n ≤ most-states → Ends book n work room (andThen o (compileCascade n work room))
+    by-book (result c) x e s m = by-entries c e s m (leb (work-entries n (c .tags) (length (c .rules))) work) refl
+    by-book (refused j nothing) x e s m = absurd x
+    by-book (refused j (byte b)) x e s m = names-byte j b (x .0) (omega (arith, x .1))
+    by-book (refused j (rule i)) x e s m = absurd x
 
     by-ceiling : (a b : Bool) → leb 1 n ≡ a → leb n most-states ≡ b
-        → Late (elim (a && b) as (λ x. Outcome (List ℕ)) [ false ↦ refused 8 nothing | true ↦ andThen (read book) (compileCascade n work room) ]) → Reached book n work
-    by-ceiling true true e f h = by-book (read book) (names-byte opening 0 book) refl (leb-true 1 n e) (leb-true n most-states f) h
-    by-ceiling true false e f h = absurd h
-    by-ceiling false b e f h = absurd h
+        → Ends book n work room (elim (a && b) as (λ x. Outcome (List ℕ)) [ false ↦ refused 8 nothing | true ↦ andThen (read book) (compileCascade n work room) ])
+    by-ceiling true true e f = by-book (read book) (book-refusal book) refl (leb-true 1 n e) (leb-true n most-states f)
+    by-ceiling true false e f = names-nothing 8 (omega arith) (omega arith)
+    by-ceiling false b e f = names-nothing 8 (omega arith) (omega arith)

@@ -1,4 +1,6 @@
 -- Theorems about compiling.
 pub mod Marked
 pub mod Answer
+pub mod Parts
 pub mod Demand
+pub mod Runs

@@ -1,19 +1,20 @@
--- The words of demand 3.
+-- The words of demand 3, and of demand 2 about the runs.
 use Prim.Native.Nat.{ℕ, _≤_, _<_}
 use mathlib.Core.Path.{_≡_}
 use mathlib.Core.List.{List, []}
 use lib.ListN.{length, take, getD}
-use Rattle.words.specs.Word.{Below}
-use Rattle.words.specs.Front.{Prefix}
+use Rattle.words.specs.Word.{Below, Prefix}
 use Rattle.limits.specs.Limits.{most-states, work-entries}
 use Rattle.answers.specs.Outcome.{result}
+use Rattle.sentences.specs.Run.{Accepted}
 use Rattle.cascades.specs.Rule.{Rule, Cascade}
 use Rattle.cascades.specs.Rewrite.{behavior}
+use Rattle.books.specs.Read.{read}
 use Rattle.transducers.specs.Transducer.{puts, Transducer, turns}
 use Rattle.transducers.specs.Table.{Table, shape}
-use Rattle.transducers.specs.Canonical.{Numbered}
+use Rattle.transducers.specs.Numbered.{Numbered}
 use Rattle.tables.specs.Bytes.{number}
-use Rattle.tables.specs.Decode.{decode}
+use Rattle.tables.specs.Decode.{Decoded, decode}
 
 -- the machine does what the rules do, on every sentence: "any finite row of tags below K, also the empty one"
 abbrev pub Does : (k : ℕ) → Transducer k → List Rule → Type 0
@@ -23,19 +24,25 @@ Does k M rs = (w : List ℕ) → Below k w → turns M w ≡ behavior rs w
 abbrev pub NeedsMore : ℕ → ℕ → List Rule → Type 0
 NeedsMore k n rs = (M : Transducer k) → Does k M rs → n < M .shape .count
 
--- "A leading part is the first i rules taken as a book, for any i from 1 to all of them": the shortest that needs more than n states
-pub record Shortest (c : Cascade) (n i : ℕ) : Type 0 where
+-- "A leading part is the first i rules taken as a book, for any i from 1 to all of them": one that needs more than n states
+pub record PartNeedsMore (c : Cascade) (n i : ℕ) : Type 0 where
   pub some : 1 ≤ i
   pub inside : i ≤ length (c .rules)
   pub more : NeedsMore (c .tags) n (take i (c .rules))
-  pub least : (j : ℕ) → 1 ≤ j → j < i → NeedsMore (c .tags) n (take j (c .rules)) → ⊥
+
+-- "i the least such"
+pub record Shortest (c : Cascade) (n i : ℕ) : Type 0 where
+  pub part : PartNeedsMore c n i
+  pub least : (j : ℕ) → PartNeedsMore c n j → i ≤ j
 
 -- two books over equally many tags make the same of every sentence
 abbrev pub Alike : Cascade → Cascade → Type 0
 Alike c d = (w : List ℕ) → Below (c .tags) w → behavior (c .rules) w ≡ behavior (d .rules) w
 
--- the ceiling is in its range, and "A work slice is long enough if it has the entries under Bounds"
-pub record Enough (n work : ℕ) (c : Cascade) : Type 0 where
+-- what comes before the states: a valid book, whose bytes are read as the cascade; a ceiling in its range; and "A work slice is long enough
+-- if it has the entries under Bounds"
+pub record Premises (book : List ℕ) (n work : ℕ) (c : Cascade) : Type 0 where
+  pub reads : read book ≡ result c
   pub some : 1 ≤ n
   pub most : n ≤ most-states
   pub entries : work-entries n (c .tags) (length (c .rules)) ≤ work
@@ -50,3 +57,29 @@ pub record SmallestTable (c : Cascade) (bytes : List ℕ) : Type 0 where
   pub smallest : (M : Transducer (c .tags)) → Does (c .tags) M (c .rules) → length table ≤ M .shape .count
   pub early : (q : ℕ) → q < length table → (z : List ℕ) → ((x : List ℕ) → Below (c .tags) x → Prefix z (puts (shape table) q x)) → z ≡ []
   pub numbered : Numbered (c .tags) (shape table)
+
+-- the bytes are the smallest table of the book
+pub record Compiled (book : List ℕ) (n work : ℕ) (bytes : List ℕ) : Type 0 where
+  pub cascade : Cascade
+  pub premises : Premises book n work cascade
+  pub smallest : SmallestTable cascade bytes
+
+-- the first i rules of the book are the shortest leading part that needs more than n states
+pub record Named (book : List ℕ) (n work i : ℕ) : Type 0 where
+  pub cascade : Cascade
+  pub premises : Premises book n work cascade
+  pub shortest : Shortest cascade n i
+
+-- the book's rules make this of a sentence that is not refused
+pub record BookMakes (book sentence : List ℕ) (room : ℕ) (made : List ℕ) : Type 0 where
+  pub cascade : Cascade
+  pub reads : read book ≡ result cascade
+  pub accepted : Accepted (cascade .tags) sentence room
+  pub made-is : made ≡ behavior (cascade .rules) sentence
+
+-- the table's transducer makes this of a sentence that is not refused
+pub record TableMakes (bytes sentence : List ℕ) (room : ℕ) (made : List ℕ) : Type 0 where
+  pub decoded : Decoded
+  pub decodes : decode bytes ≡ result decoded
+  pub accepted : Accepted (decoded .tags) sentence room
+  pub made-is : made ≡ puts (shape (decoded .table)) 0 sentence

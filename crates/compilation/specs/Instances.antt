@@ -3,15 +3,14 @@ use Prim.Native.Nat.{ℕ, _*_, _+_}
 use mathlib.Core.Bool.{Bool, true, false, _&&_}
 use mathlib.Core.List.{List, [], _∷_}
 use lib.Dec.{eqb}
-use lib.ListN.{length}
-use Rattle.limits.specs.Limits.{work-entries}
-use Rattle.words.specs.Front.{same}
-use Rattle.words.specs.Word.{differences}
+use lib.ListN.{length, getD}
+use Rattle.limits.specs.Limits.{most-tags, most-rules, most-states, work-entries}
+use Rattle.words.specs.Word.{differences, same}
 use Rattle.answers.specs.Outcome.{Outcome, result, refused, nothing, byte, rule}
 use Rattle.cascades.specs.Rule.{Rule, Cascade}
 use Rattle.books.specs.Read.{read}
 use Rattle.tagger.specs.Run.{bookRun}
-use Rattle.minimal.specs.TableOf.{tableOf}
+use Rattle.tables.specs.Bytes.{number}
 use Rattle.compilation.specs.Compile.{compileAnswer}
 
 -- "Book A is 20 02 21 00 01 22 00 22 01 00, the rule 0 1 → 1 1"
@@ -59,13 +58,17 @@ gives-10 (refused n nothing) i = false
 gives-10 (refused n (byte b)) i = false
 gives-10 (refused n (rule j)) i = eqb n 10 && eqb j i
 
-abbrev pub sized : Outcome Cascade → ℕ → ℕ → Bool
-sized (result b) s p = eqb (length (tableOf (b .tags) (b .rules))) s && eqb (product (b .rules)) p
-sized (refused n q) s p = false
+abbrev pub carries : Outcome (List ℕ) → ℕ → Bool
+carries (result bytes) s = eqb (number (getD bytes 2 0) (getD bytes 3 0)) s
+carries (refused n p) s = false
+
+abbrev pub multiplied : Outcome Cascade → ℕ → Bool
+multiplied (result b) p = eqb (product (b .rules)) p
+multiplied (refused n q) p = false
 
 -- slices that are long enough for these books
 abbrev pub long-work : ℕ
-long-work = work-entries 256 48 16
+long-work = work-entries most-states most-tags most-rules
 
 abbrev pub long-out : ℕ
 long-out = 65536
@@ -74,7 +77,7 @@ abbrev pub holds : Instance → Bool
 holds (turns book sentence made changes) = gives (bookRun book sentence (length sentence)) made && eqb (differences sentence made) changes
 holds (needs-more book n i) = gives-10 (compileAnswer book n long-work long-out) i
 holds (compiles book n bytes) = gives (compileAnswer book n long-work long-out) bytes
-holds (states book s p) = sized (read book) s p
+holds (states book s p) = carries (compileAnswer book most-states long-work long-out) s && multiplied (read book) p
 
 abbrev pub instances : List Instance
 instances =

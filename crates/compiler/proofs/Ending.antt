@@ -16,7 +16,8 @@ use Rattle.workspace.specs.Holds.{Ready, tableAt}
 use Rattle.workspace.proofs.Views.{final-is, final-size, final-inner, output-is, output-inner, in-table}
 use Rattle.encoder.specs.Encoding.{Wrote, rowsIn, Writable}
 use Rattle.words.specs.Word.{Below}
-use Rattle.compiler.specs.Answer.{compileOutcome, Gave}
+use Rattle.compiler.specs.Answer.{compileOutcome}
+use Rattle.compiler.specs.Rules.{Gave}
 use Rattle.compiler.specs.declared.CompileAnswer.{CompileAnswer}
 use Rattle.compiler.specs.declared.CompileAnswer.the-variants.{Table}
 

@@ -27,8 +27,8 @@ use Rattle.workspace.specs.Holds.{Holds, Ready, tableAt}
 use Rattle.workspace.proofs.Cells.{kept-none, kept-then, kept-wider, sized-kept}
 use Rattle.workspace.proofs.Holds.{table-at, holds-at}
 use Rattle.addition.specs.Addition.{Addable, more, Added}
-use Rattle.compiler.specs.Answer.{compileOutcome, Gave}
-use Rattle.compiler.specs.Rules.{upto, outcome, Compilable}
+use Rattle.compiler.specs.Answer.{compileOutcome}
+use Rattle.compiler.specs.Rules.{upto, outcome, Compilable, Gave}
 use Rattle.compiler.specs.declared.CompileAnswer.{CompileAnswer}
 
 -- n rules of the arrays from the i-th on

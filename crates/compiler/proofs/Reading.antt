@@ -17,22 +17,23 @@ use Rattle.answers.specs.declared.Refusal.{Refusal}
 use Rattle.answers.specs.declared.Refusal.the-variants.{AtByte, AtRule, Bare}
 use Rattle.cascades.specs.Rule.{Rule, Cascade}
 use Rattle.books.specs.Kept.{Kept as Arrays}
-use Rattle.books.specs.Read.{opening, read}
+use Rattle.books.specs.Read.{read}
 use Rattle.books.specs.Resume.{Whole}
 use Rattle.books.specs.declared.BookAnswer.{BookAnswer}
 use Rattle.books.specs.declared.BookAnswer.the-variants.{Book}
+use Rattle.books.proofs.Refusal.{BookRefusal, book-refusal}
 use Rattle.books.proofs.Encode.{kept-valid, kept-few, reads-exactly}
 use Rattle.transducers.specs.Table.{Table}
 use Rattle.minimal.specs.TableOf.{tableOf}
 use Rattle.tables.specs.Bytes.{encode}
 use Rattle.sentences.specs.Run.{written}
 use Rattle.compilation.specs.Compile.{compileRules, fitting, compileCascade, compileAnswer}
-use Rattle.compilation.proofs.Answer.{Told, fits, exceeds, told, NamesByte, names-byte}
+use Rattle.compilation.proofs.Answer.{Told, fits, exceeds, told}
 use Rattle.workspace.specs.declared.Grid.{Grid}
 use Rattle.workspace.specs.Cells.{ix, at, Kept, In-rows}
 use Rattle.workspace.proofs.Cells.{ix-below}
-use Rattle.compiler.specs.Answer.{compileOutcome, longOf, clears, required, worked, Gave}
-use Rattle.compiler.specs.Rules.{upto, outcome, cascadeOf, Compilable, Readable, Ended}
+use Rattle.compiler.specs.Answer.{compileOutcome, longOf, clears, required, worked}
+use Rattle.compiler.specs.Rules.{upto, outcome, cascadeOf, Compilable, Readable, Ended, Gave}
 use Rattle.compiler.specs.declared.CompileAnswer.{CompileAnswer}
 use Rattle.compiler.proofs.Progress.{upto-long}
 
@@ -205,8 +206,8 @@ module _ (book : List ℕ) (n work room : ℕ) where
             where
               named : (o : Outcome (List ℕ)) (i p : ℕ) → o ≡ refused i (byte p) → compileOutcome q ≡ refused i (byte p) → Ended o entries W W out out q
               named o i p e g = record { gave = record { answered = cc (e, g); wrote = cc (e) }; worked-is = cc (e) }
-          by (AtRule i p) e g = absurd (subst NamesByte (sym e) (names-byte opening 0 book))
-          by (Bare i) e g = absurd (subst NamesByte (sym e) (names-byte opening 0 book))
+          by (AtRule i p) e g = absurd (subst BookRefusal (sym e) (book-refusal book))
+          by (Bare i) e g = absurd (subst BookRefusal (sym e) (book-refusal book))
 
       module _ (k m : ℕ) (f : r ≡ Book k m) where
         was-read : result (cascadeOf k a m) ≡ read book

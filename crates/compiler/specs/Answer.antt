@@ -1,6 +1,5 @@
 -- What the compile call answers, and what its slices hold at exit. `compileAnswer` says which bytes or which refusal.
 use Prim.Native.Nat.{ℕ}
-use mathlib.Core.Path.{_≡_}
 use mathlib.Core.Bool.{Bool, true, false}
 use mathlib.Core.List.{List, _++_}
 use lib.Dec.{leb}
@@ -9,7 +8,6 @@ use Rattle.limits.specs.Limits.{work-entries}
 use Rattle.answers.specs.Outcome.{Outcome, result, refused, nothing, byte, rule}
 use Rattle.answers.specs.Answer.{refusal}
 use Rattle.cascades.specs.Rule.{Cascade}
-use Rattle.sentences.specs.Run.{written}
 use Rattle.compiler.specs.declared.CompileAnswer.{CompileAnswer}
 use Rattle.compiler.specs.declared.CompileAnswer.the-variants.{Table, Refused}
 
@@ -38,8 +36,3 @@ required n (refused j p) = 0
 -- "on 10, 11 and success its first required entries are zero and the rest unchanged"
 abbrev pub worked : Outcome (List ℕ) → ℕ → List ℕ → List ℕ
 worked o entries work = elim (clears o) [ true ↦ replicate entries 0 ++ drop entries work | false ↦ work ]
-
--- the answer of a part of compiling, and the output slice at exit
-pub record Gave (o : Outcome (List ℕ)) (before after : List ℕ) (answer : CompileAnswer) : Type 0 where
-  pub answered : compileOutcome answer ≡ longOf o
-  pub wrote : after ≡ written o before

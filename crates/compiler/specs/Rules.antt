@@ -5,13 +5,19 @@ use mathlib.Core.List.{List, reverse}
 use Rattle.limits.specs.Limits.{most-states, most-rules, most-tags, longest-pattern}
 use Rattle.answers.specs.Outcome.{Outcome, andThen}
 use Rattle.cascades.specs.Rule.{Rule, ValidRule, Cascade}
+use Rattle.sentences.specs.Run.{written}
 use Rattle.books.specs.Kept.{Kept as Arrays, Shaped, ruleAt, rulesDown}
 use Rattle.tables.specs.Bytes.{encode}
 use Rattle.compilation.specs.Compile.{compileRules, fitting}
 use Rattle.workspace.specs.declared.Grid.{Grid}
 use Rattle.workspace.specs.Cells.{Sized}
 use Rattle.compiler.specs.declared.CompileAnswer.{CompileAnswer}
-use Rattle.compiler.specs.Answer.{Gave, worked}
+use Rattle.compiler.specs.Answer.{compileOutcome, longOf, worked}
+
+-- the answer of a part of compiling, and the output slice at exit
+pub record Gave (o : Outcome (List ℕ)) (before after : List ℕ) (answer : CompileAnswer) : Type 0 where
+  pub answered : compileOutcome answer ≡ longOf o
+  pub wrote : after ≡ written o before
 
 -- the first m rules of the arrays
 abbrev pub upto : Arrays → ℕ → List Rule

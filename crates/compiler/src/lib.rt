@@ -20,8 +20,8 @@ ghost use Rattle.books.specs.Kept.{arrays, Shaped, ruleAt};
 ghost use Rattle.compilation.specs.Compile.{compileCascade, compileAnswer};
 ghost use Rattle.workspace.specs.Cells.{Kept, In-rows};
 ghost use Rattle.addition.specs.Addition.{Addable, Added};
-ghost use Rattle.compiler.specs.Answer.{compileOutcome, longOf, required, worked, Gave};
-ghost use Rattle.compiler.specs.Rules.{outcome, cascadeOf, Compilable, Readable, Ended};
+ghost use Rattle.compiler.specs.Answer.{compileOutcome, longOf, required, worked};
+ghost use Rattle.compiler.specs.Rules.{outcome, cascadeOf, Compilable, Readable, Ended, Gave};
 
 // The number of bytes of the table, or the refusal.
 pub enum CompileAnswer {

@@ -5,8 +5,8 @@ use mathlib.Core.Path.{_≡_, refl, sym, ap, _∙_}
 use mathlib.Core.Logic.{_↔_}
 use mathlib.Core.List.{List, [], _∷_, _++_}
 use lib.ListN.{length, take}
-use Rattle.words.specs.Word.{Below}
-use Rattle.words.specs.Front.{first, Prefix}
+use Rattle.words.specs.Word.{Below, Prefix}
+use Rattle.words.specs.Front.{first}
 use Rattle.cascades.specs.Rule.{Rule, ValidRule, ValidRules}
 use Rattle.cascades.specs.Rewrite.{apply, behavior}
 use Rattle.transducers.specs.Transducer.{Shape, puts, Transducer, turns}

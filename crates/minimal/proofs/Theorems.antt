@@ -6,14 +6,14 @@ use mathlib.Core.Path.{_≡_}
 use mathlib.Core.Logic.{_↔_}
 use mathlib.Core.List.{List, [], _∷_, _++_}
 use lib.ListN.{length, take}
-use Rattle.words.specs.Word.{Below}
-use Rattle.words.specs.Front.{Prefix}
+use Rattle.words.specs.Word.{Below, Prefix}
 use Rattle.cascades.specs.Rule.{Rule, ValidRule, ValidRules}
 use Rattle.cascades.specs.Rewrite.{behavior}
 use Rattle.transducers.specs.Transducer.{puts, Transducer, turns}
 use Rattle.transducers.specs.Table.{Table, shape}
 use Rattle.transducers.specs.Run.{outputs}
-use Rattle.transducers.specs.Canonical.{Reached, Numbered, Sound, Held, Canonical}
+use Rattle.transducers.specs.Canonical.{Reached, Sound, Held, Canonical}
+use Rattle.transducers.specs.Numbered.{Numbered}
 use Rattle.transducers.specs.Tabulate.{Rows}
 use Rattle.minimal.specs.TableOf.{tableOf}
 use Rattle.minimal.proofs.TableOf.{good, good-smallest, good-ahead, good-more, good-early, good-only, good-canonical, one-rule-count, valid-take}

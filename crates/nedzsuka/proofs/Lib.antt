@@ -1,2 +1,3 @@
--- Answers that fit in one number.
-pub mod Fit
+-- The functions for C: what their numbers mean, and the demands about them.
+pub mod Number
+pub mod Demand

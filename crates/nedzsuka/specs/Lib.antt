@@ -1,2 +1,2 @@
--- The door for hosts in C.
+-- The functions for C.
 pub mod Packed

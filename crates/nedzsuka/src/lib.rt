@@ -12,7 +12,7 @@ ghost use Rattle.tagger.specs.Run.{bookRun};
 ghost use Rattle.tables.specs.Run.{tableRun};
 ghost use Rattle.compilation.specs.Compile.{compileAnswer};
 ghost use Rattle.compiler.specs.Answer.{compileOutcome, longOf, required, worked};
-ghost use Rattle.nedzsuka.specs.Packed.{packed, Fits};
+ghost use Rattle.nedzsuka.specs.Packed.{packed, Legible};
 
 fn pack(upper: usize, number: u8) -> u64
     requires { ⌜ upper < 2 ^ 56 ⌝ }
@@ -22,7 +22,7 @@ fn pack(upper: usize, number: u8) -> u64
 }
 
 fn pack_refusal(given: Refusal) -> u64
-    requires { ⌜ Fits (refusal given) ⌝ }
+    requires { ⌜ Legible (refusal given) ⌝ }
     ensures { λ r. ⌜ r ≡ packed (refusal given) ⌝ }
 {
     match given {
@@ -33,7 +33,7 @@ fn pack_refusal(given: Refusal) -> u64
 }
 
 fn pack_run(answer: RunAnswer) -> u64
-    requires { ⌜ Fits (runOutcome answer) ⌝ }
+    requires { ⌜ Legible (runOutcome answer) ⌝ }
     ensures { λ r. ⌜ r ≡ packed (runOutcome answer) ⌝ }
 {
     match answer {
@@ -43,7 +43,7 @@ fn pack_run(answer: RunAnswer) -> u64
 }
 
 fn pack_compile(answer: CompileAnswer) -> u64
-    requires { ⌜ Fits (compileOutcome answer) ⌝ }
+    requires { ⌜ Legible (compileOutcome answer) ⌝ }
     ensures { λ r. ⌜ r ≡ packed (compileOutcome answer) ⌝ }
 {
     match answer {

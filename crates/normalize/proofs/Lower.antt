@@ -8,7 +8,8 @@ use mathlib.Core.Bool.{Bool, true, false}
 use mathlib.Core.List.{List, [], _++_}
 use lib.ListN.{length, getD, take, drop}
 use lib.Seq.{length-take-le, take-length}
-use Rattle.words.specs.Front.{Prefix, meet}
+use Rattle.words.specs.Front.{meet}
+use Rattle.words.specs.Word.{Prefix}
 use Rattle.words.proofs.Word.{below-suc}
 use Rattle.words.proofs.Front.{begins-nil, begins-trans, begins-length, begins-whole, meet-left, meet-right}
 use Rattle.transducers.specs.Table.{Table, shape}

@@ -9,7 +9,8 @@ use borrow.Author.Tests.{eq-eqb}
 use lib.Dec.{eqb}
 use lib.ListN.{length, take, drop, length-take, take-append-drop}
 use lib.Seq.{take-length, take-append-le, take-append-add, take-append-seam, take-take, take-all}
-use Rattle.words.specs.Front.{Prefix, meet}
+use Rattle.words.specs.Front.{meet}
+use Rattle.words.specs.Word.{Prefix}
 
 meet-nil : (u : List ℕ) → meet u [] ≡ []
 meet-nil [] = refl

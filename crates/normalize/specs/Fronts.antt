@@ -5,7 +5,7 @@ use mathlib.Core.Logic.{_⊎_}
 use mathlib.Core.Bool.{Bool, true, false}
 use mathlib.Core.List.{List, _++_}
 use lib.ListN.{length, take}
-use Rattle.words.specs.Front.{Prefix}
+use Rattle.words.specs.Word.{Prefix}
 use Rattle.transducers.specs.Normalize.{Above}
 use Rattle.workspace.specs.declared.Grid.{Grid}
 use Rattle.workspace.specs.Cells.{at, Kept, Spare}

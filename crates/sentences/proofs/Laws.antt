@@ -3,21 +3,22 @@ use Prim.Native.Nat.{ℕ, suc, _+_, _<_, _≤_, max}
 use native.Mathlib.Numerals.{add-one}
 use native.Mathlib.Nat.{zero-add}
 use native.Mathlib.Omega.{arith}
-use mathlib.Core.Path.{_≡_, refl, subst}
+use mathlib.Core.Path.{_≡_, refl, sym, ap, subst}
 use mathlib.Core.Bool.{Bool, true, false}
 use mathlib.Core.List.{List, [], _∷_, _++_}
-use borrow.Author.Tests.{eq-eqb, ne-eqb, le-leb, lt-leb, lt-ltb, le-ltb, leb-true}
+use borrow.Author.Tests.{eq-eqb, ne-eqb, le-leb, lt-leb, lt-ltb, le-ltb, leb-true, ltb-true}
 use lib.Dec.{eqb, leb, ltb}
 use lib.ListN.{length, drop, getD, set}
 use lib.Seq.{drop-cons, paste, paste-suc, take-length}
-use Rattle.words.specs.Word.{differences}
+use Rattle.words.specs.Word.{Below, differences}
 use Rattle.limits.specs.Limits.{longest-sentence}
 use Rattle.answers.specs.Outcome.{Outcome, result, refused, nothing}
 use Rattle.answers.specs.Answer.{refusal}
 use Rattle.answers.specs.declared.Refusal.{Refusal}
 use Rattle.answers.specs.declared.Refusal.the-variants.{AtByte, AtRule, Bare}
 use Rattle.answers.specs.declared.RunAnswer.the-variants.{Changed, Refused}
-use Rattle.sentences.specs.Run.{highest, run, Wrote, Ran}
+use Rattle.sentences.specs.Run.{highest, run, Accepted, Ran}
+use Rattle.sentences.specs.Parts.{Wrote}
 
 pub highest-next : (s : List ℕ) (i : ℕ) → i < length s → highest (drop i s) ≡ max (getD s i 0) (highest (drop (i + 1) s))
 highest-next s i h = rw (add-one, drop-cons s i 0)
@@ -60,18 +61,60 @@ module _ (k : ℕ) (s : List ℕ) (room : ℕ) (made : List ℕ) where
   pub run-made : length s ≤ longest-sentence → highest s < k → length s ≤ room → result made ≡ run k s room made
   run-made h t r = cc (le-leb (length s) longest-sentence h, lt-ltb (highest s) k t, le-leb (length s) room r)
 
--- a result needs room
-pub result-room : (k : ℕ) (s : List ℕ) (room : ℕ) (made : List ℕ) → result made ≡ run k s room made → length s ≤ room
-result-room k s room made e = by (leb (length s) longest-sentence) (ltb (highest s) k) (leb (length s) room) refl e
-  where
-    by : (a b c : Bool) → leb (length s) room ≡ c
-        → _≡_ {A = Outcome (List ℕ)} (result made)
-        (elim a [ false ↦ refused 13 nothing | true ↦ elim b [ false ↦ refused 4 nothing | true ↦ elim c [ false ↦ refused 11 nothing | true ↦ result made ] ] ])
-        → length s ≤ room
-    by true true true t e = leb-true (length s) room t
-    by true true false t e = let z : _≡_ {A = ℕ} 0 1 = cc in absurd (omega arith)
-    by true false c t e = let z : _≡_ {A = ℕ} 0 1 = cc in absurd (omega arith)
-    by false b c t e = let z : _≡_ {A = ℕ} 0 1 = cc in absurd (omega arith)
+-- a sentence's highest tag is below k exactly if all its tags are
+pub highest-below : (k : ℕ) (w : List ℕ) → highest w < k → Below k w
+highest-below k [] h = tt
+highest-below k (a ∷ w) h = (omega arith, highest-below k w (omega arith))
+
+below-highest : (k : ℕ) (w : List ℕ) → 0 < k → Below k w → highest w < k
+below-highest k [] h b = h
+below-highest k (a ∷ w) h b = omega (arith, b .0, below-highest k w h (b .1))
+
+-- the outcomes of a run: 13, 4, 11, or what is made of a sentence that is not refused
+pub data RunEnds (k : ℕ) (s : List ℕ) (room : ℕ) (made : List ℕ) : Outcome (List ℕ) → Type 0 where
+  too-long : RunEnds k s room made (refused 13 nothing)
+  high-tag : RunEnds k s room made (refused 4 nothing)
+  no-room : RunEnds k s room made (refused 11 nothing)
+  made-of : Accepted k s room → RunEnds k s room made (result made)
+
+module _ (k : ℕ) (s : List ℕ) (room : ℕ) (made : List ℕ) where
+  pub run-ends : RunEnds k s room made (run k s room made)
+  run-ends = by (leb (length s) longest-sentence) (ltb (highest s) k) (leb (length s) room) refl refl refl
+    where
+      by : (a b c : Bool) → leb (length s) longest-sentence ≡ a → ltb (highest s) k ≡ b → leb (length s) room ≡ c
+          → RunEnds k s room made
+          (elim a as (λ x. Outcome (List ℕ)) [ false ↦ refused 13 nothing | true ↦ elim b as (λ x. Outcome (List ℕ)) [ false ↦ refused 4 nothing | true ↦ elim c as (λ x. Outcome (List ℕ)) [ false ↦ refused 11 nothing | true ↦ result made ] ] ])
+      by true true true f g h =
+          made-of
+          (record {
+            short = leb-true (length s) longest-sentence f;
+            below = highest-below k s (ltb-true (highest s) k g);
+            fits = leb-true (length s) room h;
+          })
+      by true true false f g h = no-room
+      by true false c f g h = high-tag
+      by false b c f g h = too-long
+
+  -- a run gives its result exactly if no refusal of a sentence fits
+  pub run-accepts : (w : List ℕ) → run k s room made ≡ result w → Accepted k s room × (w ≡ made)
+  run-accepts w = by run-ends
+    where
+      by : {o : Outcome (List ℕ)} → RunEnds k s room made o → o ≡ result w → Accepted k s room × (w ≡ made)
+      by (made-of a) e = (a, cc)
+      by too-long e = let z : _≡_ {A = ℕ} 0 1 = cc in absurd (omega arith)
+      by high-tag e = let z : _≡_ {A = ℕ} 0 1 = cc in absurd (omega arith)
+      by no-room e = let z : _≡_ {A = ℕ} 0 1 = cc in absurd (omega arith)
+
+  pub accepted-run : 0 < k → Accepted k s room → run k s room made ≡ result made
+  accepted-run h a = sym (run-made k s room made (a .short) (below-highest k s h (a .below)) (a .fits))
+
+  -- what is made matters only for a sentence of tags below k
+  pub run-same : (made' : List ℕ) → (Below k s → made ≡ made') → run k s room made ≡ run k s room made'
+  run-same made' e = by (ltb (highest s) k) refl
+    where
+      by : (b : Bool) → ltb (highest s) k ≡ b → run k s room made ≡ run k s room made'
+      by true g = ap (run k s room) (e (highest-below k s (ltb-true (highest s) k g)))
+      by false g = cc
 
 -- ---- how runs end
 

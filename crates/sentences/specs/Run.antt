@@ -1,12 +1,12 @@
 -- A run over a sentence, of a book or of a table.
-use Prim.Native.Nat.{ℕ, _+_, _≤_, max}
+use Prim.Native.Nat.{ℕ, _≤_, max}
 use mathlib.Core.Path.{_≡_}
 use mathlib.Core.Bool.{true, false}
 use mathlib.Core.List.{List, [], _∷_, _++_}
 use lib.Dec.{leb, ltb}
 use lib.ListN.{length, drop}
 use Rattle.limits.specs.Limits.{longest-sentence}
-use Rattle.words.specs.Word.{differences}
+use Rattle.words.specs.Word.{Below, differences}
 use Rattle.answers.specs.Outcome.{Outcome, result, refused, nothing}
 use Rattle.answers.specs.Answer.{runOutcome}
 use Rattle.answers.specs.declared.RunAnswer.{RunAnswer}
@@ -39,17 +39,13 @@ abbrev pub written : Outcome (List ℕ) → List ℕ → List ℕ
 written (result made) out = made ++ drop (length made) out
 written (refused n p) out = out
 
--- a result has been written to the front of the output slice, and its changed tags counted
-pub record Wrote (made sentence before after : List ℕ) (changes : ℕ) : Type 0 where
-  pub counted : changes ≡ differences sentence made
-  pub front : after ≡ made ++ drop (length made) before
-
 -- a run has ended: its answer is the number of changed tags or the refusal, and the output slice holds the result or its old bytes
 pub record Ran (outcome : Outcome (List ℕ)) (sentence before after : List ℕ) (answer : RunAnswer) : Type 0 where
   pub answered : runOutcome answer ≡ changed sentence outcome
   pub wrote : after ≡ written outcome before
 
--- so many places from one place up to another differ
-pub record Counted (a b : List ℕ) (from to n : ℕ) : Type 0 where
-  pub sum : n + differences (drop to a) (drop to b) ≡ differences (drop from a) (drop from b)
-  pub few : n + from ≤ to
+-- no refusal of a sentence fits: it is not too long, its tags are below k, and the output slice is at least as long
+pub record Accepted (k : ℕ) (sentence : List ℕ) (room : ℕ) : Type 0 where
+  pub short : length sentence ≤ longest-sentence
+  pub below : Below k sentence
+  pub fits : length sentence ≤ room

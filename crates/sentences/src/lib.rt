@@ -6,7 +6,8 @@ ghost use Prim.Native.Nat.{ℕ, _+_, _≤_};
 ghost use mathlib.Core.List.{List, _++_};
 ghost use lib.ListN.{length, drop};
 ghost use Rattle.words.specs.Word.{differences};
-ghost use Rattle.sentences.specs.Run.{highest, run, Counted};
+ghost use Rattle.sentences.specs.Run.{highest, run};
+ghost use Rattle.sentences.specs.Parts.{Counted};
 ghost use Rattle.sentences.specs.Admission.{admission};
 
 pub enum Admission {

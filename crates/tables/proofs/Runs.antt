@@ -8,26 +8,24 @@ use mathlib.Core.List.{List, [], _∷_, _++_, append-assoc, append-nil}
 use lib.ListN.{length, take, drop, getD, set, length-append, length-drop, length-set, length-take, take-append-drop}
 use lib.Seq.{drop-cons, drop-drop, drop-length, take-suc-set, take-set-le, drop-set-lt, take-length, paste, paste-suc, take-paste, drop-paste, length-paste, length-take-le, length-paste-head, take-at}
 use mathlib.Core.Bool.{Bool, true, false}
-use borrow.Author.Tests.{leb-true, ltb-true}
-use lib.Dec.{leb, ltb}
 use Rattle.words.specs.Word.{Below, differences}
-use Rattle.limits.specs.Limits.{longest-sentence}
 use Rattle.answers.specs.Outcome.{Outcome, result, refused, nothing}
 use Rattle.answers.specs.Answer.{refusal, runOutcome}
 use Rattle.answers.specs.declared.Refusal.{Refusal}
 use Rattle.answers.specs.declared.Refusal.the-variants.{AtByte, AtRule, Bare}
 use Rattle.answers.specs.declared.RunAnswer.{RunAnswer}
 use Rattle.answers.specs.declared.RunAnswer.the-variants.{Changed, Refused}
-use Rattle.sentences.specs.Run.{highest, run, changed, written}
+use Rattle.sentences.specs.Run.{run, changed, written, Accepted}
 use Rattle.sentences.specs.Admission.{admission}
 use Rattle.sentences.specs.declared.Admission.{Admission}
 use Rattle.sentences.specs.declared.Admission.the-variants.{Admitted}
+use Rattle.sentences.proofs.Laws.{run-accepts}
 use Rattle.transducers.specs.Transducer.{puts}
 use Rattle.transducers.specs.Table.{Step, Table, row, step, shape}
 use Rattle.tables.specs.Valid.{ValidTable}
 use Rattle.tables.specs.Decode.{Decoded, decode, malformed}
-use Rattle.tables.specs.Run.{made, tableRun, tableOutcome, sizeOf}
-use Rattle.tables.specs.Index.{tagOf, countOf, placeOf, baseOf, Stands, Cell, FinalCell, RowCells, TableCells, Loaded, Head, HeadRead, LoadedIf, SizeIf, Put, Usable, Ready}
+use Rattle.tables.specs.Run.{tableRun, tableOutcome, sizeOf}
+use Rattle.tables.specs.Index.{tagOf, countOf, placeOf, baseOf, Stands, Cell, FinalCell, RowCells, TableCells, Loaded, Head, HeadRead, LoadedIf, SizeIf, Put, Usable, Ready, made}
 use Rattle.tables.specs.declared.TableAnswer.{TableAnswer}
 use Rattle.tables.proofs.Words.{below-drop}
 use Rattle.tables.proofs.Places.{row-inside}
@@ -285,28 +283,11 @@ module _ {bs ix sentence out₀ out : List ℕ} {i at base : ℕ} (g : Going bs 
           ∙ ap (λ (l : List ℕ). puts (shape t) 0 sentence ++ l) (g .kept)
           ∙ ap (λ (o : Outcome Decoded). made o sentence ++ drop (length sentence) out₀) (sym (p .usable .loaded .decodes))
 
--- the outcomes of a run
-highest-below : (k : ℕ) (w : List ℕ) → highest w < k → Below k w
-highest-below k [] h = tt
-highest-below k (a ∷ w) h = (omega arith, highest-below k w (omega arith))
-
-never : {A : Type 0} → _≡_ {A = ℕ} 0 1 → A
-never e = absurd (omega arith)
-
-module _ (k : ℕ) (sentence : List ℕ) (room : ℕ) where
-  tests : (b c d : Bool) (m : List ℕ)
-      → result m ≡ elim b as (λ x. Outcome (List ℕ)) [ false ↦ refused 13 nothing | true ↦ elim c as (λ x. Outcome (List ℕ)) [ false ↦ refused 4 nothing | true ↦ elim d as (λ x. Outcome (List ℕ)) [ false ↦ refused 11 nothing | true ↦ result m ] ] ]
-      → (c ≡ true) × (d ≡ true)
-  tests true true true m e = (refl, refl)
-  tests true true false m e = never cc
-  tests true false d m e = never cc
-  tests false c d m e = never cc
-
-  pub admitted : (r : Admission) → r ≡ Admitted → ((m : List ℕ) → admission r m ≡ run k sentence room m) → Below k sentence × (length sentence ≤ room)
-  admitted r e f =
-      let g : result [] ≡ run k sentence room [] = rw e at (f []) in
-      let t = tests (leb (length sentence) longest-sentence) (ltb (highest sentence) k) (leb (length sentence) room) [] g in
-      (highest-below k sentence (ltb-true (highest sentence) k (t .0)), leb-true (length sentence) room (t .1))
+-- an admitted sentence has tags below k and room for its result
+pub admitted : (k : ℕ) (sentence : List ℕ) (room : ℕ) (r : Admission) → r ≡ Admitted → ((m : List ℕ) → admission r m ≡ run k sentence room m) → Accepted k sentence room
+admitted k sentence room r e f =
+    let g : result [] ≡ run k sentence room [] = rw e at (f []) in
+    run-accepts k sentence room [] [] (sym g) .0
 
 -- a refusal is the answer, and nothing is written
 refusal-changed : (r : Refusal) (sentence : List ℕ) → changed sentence (refusal r) ≡ refusal r
@@ -347,7 +328,7 @@ module _ (bs sentence out : List ℕ) where
     pub run-ready : (a : Admission) → a ≡ Admitted → ((l : List ℕ) → admission a l ≡ run k sentence (length out) l) → Ready bs ix sentence out
     run-ready a e f =
         let t = admitted k sentence (length out) a e f in
-        record { tags = k; usable = u; below = t .0; room = t .1 }
+        record { tags = k; usable = u; below = t .below; room = t .fits }
 
     module _ (a : Admission) (e : a ≡ Admitted) (f : (l : List ℕ) → admission a l ≡ run k sentence (length out) l) (out' : List ℕ)
         (w : out' ≡ made (decode bs) sentence ++ drop (length sentence) out) where
@@ -355,7 +336,7 @@ module _ (bs sentence out : List ℕ) where
       whole = w ∙ ap (λ (o : Outcome Decoded). made o sentence ++ drop (length sentence) out) (u .loaded .decodes)
 
       long : length m ≡ length sentence
-      long = run-length k (u .loaded .table) (u .valid) sentence (admitted k sentence (length out) a e f .0)
+      long = run-length k (u .loaded .table) (u .valid) sentence (admitted k sentence (length out) a e f .below)
 
       front : take (length sentence) out' ≡ m
       front = rw whole (take-at m (drop (length sentence) out) (length sentence) long)

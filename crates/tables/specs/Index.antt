@@ -3,16 +3,17 @@
 use Prim.Native.Nat.{ℕ, _+_, _*_, _/_, _%_, _<_, _≤_, _-_, min}
 use mathlib.Core.Path.{_≡_}
 use mathlib.Core.Bool.{Bool, true, false}
-use mathlib.Core.List.{List, _++_}
+use mathlib.Core.List.{List, [], _++_}
 use lib.ListN.{length, getD, take, drop}
 use Rattle.words.specs.Word.{Below}
 use Rattle.limits.specs.Limits.{fewest-tags, most-tags, most-states}
-use Rattle.answers.specs.Outcome.{Outcome, result}
+use Rattle.answers.specs.Outcome.{Outcome, result, refused}
 use Rattle.answers.specs.declared.Refusal.the-variants.{Bare}
-use Rattle.transducers.specs.Table.{Step, Row, Table, no-step, row}
+use Rattle.transducers.specs.Transducer.{puts}
+use Rattle.transducers.specs.Table.{Step, Row, Table, no-step, row, shape}
 use Rattle.tables.specs.Valid.{ValidTable}
 use Rattle.tables.specs.Bytes.{number, joined, stepBytes, rowBytes}
-use Rattle.tables.specs.Decode.{malformed, many, readStep, readRow, readTable, decode}
+use Rattle.tables.specs.Decode.{Decoded, malformed, many, readStep, readRow, readTable, decode}
 use Rattle.tables.specs.Run.{sizeOf}
 use Rattle.tables.specs.declared.Reached.{Reached}
 use Rattle.tables.specs.declared.Reached.the-variants.{To, Malformed}
@@ -166,3 +167,8 @@ pub record Asked (bs : List ℕ) (at k s : ℕ) : Type 0 where
   pub few-bytes : length bs < 0xffffff
   pub few-tags : k ≤ most-tags
   pub few-states : s ≤ most-states
+
+-- what the table puts out, if there is one
+abbrev pub made : Outcome Decoded → List ℕ → List ℕ
+made (result d) sentence = puts (shape (d .table)) 0 sentence
+made (refused n p) sentence = []

@@ -1,6 +1,6 @@
 -- What the public calls answer.
 use Prim.Native.Nat.{ℕ}
-use mathlib.Core.List.{List, []}
+use mathlib.Core.List.{List}
 use lib.ListN.{length}
 use Rattle.answers.specs.Outcome.{Outcome, result, refused, andThen}
 use Rattle.answers.specs.Answer.{refusal}
@@ -29,8 +29,3 @@ sizeOf bytes = andThen (decode bytes) (λ d. result (record { tags = d .tags; st
 abbrev pub tableRun : List ℕ → List ℕ → ℕ → Outcome (List ℕ)
 tableRun bytes sentence room =
     andThen (decode bytes) (λ d. run (d .tags) sentence room (puts (shape (d .table)) 0 sentence))
-
--- what the table puts out, if there is one
-abbrev pub made : Outcome Decoded → List ℕ → List ℕ
-made (result d) sentence = puts (shape (d .table)) 0 sentence
-made (refused n p) sentence = []

@@ -13,8 +13,8 @@ ghost use Rattle.tables.specs.Bytes.{number, joined, stepBytes, rowBytes
 ghost use Rattle.tables.specs.Decode.{word, many, readStep, readRow, decode};
 ghost use Rattle.answers.specs.Answer.{runOutcome};
 ghost use Rattle.sentences.specs.Run.{changed, written};
-ghost use Rattle.tables.specs.Run.{made, tableRun, tableOutcome, sizeOf};
-ghost use Rattle.tables.specs.Index.{tagOf, countOf, placeOf, baseOf, Stands, Cell, SingleIf, StepCell, StepCells, RowCells, TableCells, PartRead, Kept, Asked, Level, Linked, Decides, Head, HeadRead, RowsRead, LoadedIf, SizeIf, Put, Usable, Ready};
+ghost use Rattle.tables.specs.Run.{tableRun, tableOutcome, sizeOf};
+ghost use Rattle.tables.specs.Index.{tagOf, countOf, placeOf, baseOf, Stands, Cell, SingleIf, StepCell, StepCells, RowCells, TableCells, PartRead, Kept, Asked, Level, Linked, Decides, Head, HeadRead, RowsRead, LoadedIf, SizeIf, Put, Usable, Ready, made};
 
 // The K and the S of a table.
 pub enum TableAnswer {

@@ -13,7 +13,8 @@ use Rattle.answers.specs.Outcome.{Outcome, result}
 use Rattle.answers.specs.Answer.{refusal}
 use Rattle.answers.specs.declared.Refusal.{Refusal}
 use Rattle.answers.specs.declared.Refusal.the-variants.{AtByte, AtRule, Bare}
-use Rattle.sentences.specs.Run.{run, Wrote}
+use Rattle.sentences.specs.Run.{run}
+use Rattle.sentences.specs.Parts.{Wrote}
 use Rattle.sentences.specs.Admission.{admission}
 use Rattle.sentences.specs.declared.Admission.{Admission}
 use Rattle.cascades.specs.Rule.{Rule}

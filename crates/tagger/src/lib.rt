@@ -14,7 +14,8 @@ ghost use Rattle.words.specs.Word.{prefix};
 ghost use Rattle.cascades.specs.Rewrite.{rewrite, apply, behavior};
 ghost use Rattle.books.specs.Kept.{arrays, Shaped, ruleAt, rulesDown};
 ghost use Rattle.answers.specs.Answer.{runOutcome};
-ghost use Rattle.sentences.specs.Run.{run, changed, written, Wrote, Ran};
+ghost use Rattle.sentences.specs.Run.{run, changed, written, Ran};
+ghost use Rattle.sentences.specs.Parts.{Wrote};
 ghost use Rattle.tagger.specs.Run.{bookRun};
 
 // Whether the pattern u begins at the place i of s. It stops at the first difference.

@@ -6,8 +6,8 @@ use native.Mathlib.Decide.{ℕ-discrete}
 use mathlib.Core.Logic.{_≢_}
 use mathlib.Core.List.{List, [], _∷_, _++_, append-assoc, append-nil}
 use lib.ListN.{length, length-append}
-use Rattle.words.specs.Word.{Below}
-use Rattle.words.specs.Front.{first, Prefix}
+use Rattle.words.specs.Word.{Below, Prefix}
+use Rattle.words.specs.Front.{first}
 use Rattle.words.proofs.Word.{below-append}
 use Rattle.transducers.specs.Transducer.{Shape, puts, Transducer, turns}
 use Rattle.transducers.specs.Run.{walk, outputs}

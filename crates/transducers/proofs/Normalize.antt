@@ -6,8 +6,8 @@ use mathlib.Core.Path.{_≡_, refl, sym, ap, _∙_}
 use mathlib.Core.Logic.{_⊎_, inl, inr}
 use mathlib.Core.List.{List, [], _∷_, _++_, append-assoc, map}
 use lib.ListN.{length, getD, length-append, length-map, length-drop, List·getD-map}
-use Rattle.words.specs.Word.{Below}
-use Rattle.words.specs.Front.{first, Prefix, meet}
+use Rattle.words.specs.Word.{Below, Prefix}
+use Rattle.words.specs.Front.{first, meet}
 use Rattle.words.proofs.Word.{below-append, below-right, below-left}
 use Rattle.words.proofs.Front.{begins-nil, begins-refl, begins-trans, begins-under, begins-length, begins-whole, begins-drop, begins-either, begins-cancel, meet-left, meet-right, meet-greatest}
 use Rattle.transducers.specs.Transducer.{Shape, puts}

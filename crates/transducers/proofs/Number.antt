@@ -14,7 +14,8 @@ use Rattle.words.proofs.Word.{below-suc, below-append}
 use Rattle.transducers.specs.Transducer.{Shape, puts}
 use Rattle.transducers.specs.Table.{Step, Table, no-step, row, shape}
 use Rattle.transducers.specs.Run.{walk}
-use Rattle.transducers.specs.Canonical.{Same, Inside, Early, Reached, Apart, Before, Earlier, Numbered, Sound, Canonical}
+use Rattle.transducers.specs.Canonical.{Same, Inside, Early, Reached, Apart, Sound, Canonical}
+use Rattle.transducers.specs.Numbered.{Before, Earlier, Numbered}
 use Rattle.transducers.specs.Tabulate.{Rows, Doing}
 use Rattle.transducers.specs.Number.{place, note, noteAll, visit, order, numbered, number}
 use Rattle.transducers.proofs.Run.{walk-append, earlier-in, earlier-place}

@@ -10,7 +10,8 @@ use Rattle.words.specs.Word.{Below}
 use Rattle.words.proofs.Word.{below-append}
 use Rattle.transducers.specs.Transducer.{Shape, puts}
 use Rattle.transducers.specs.Run.{walk, outputs}
-use Rattle.transducers.specs.Canonical.{Inside, Sound, Held, Before, Earlier}
+use Rattle.transducers.specs.Canonical.{Inside, Sound, Held}
+use Rattle.transducers.specs.Numbered.{Before, Earlier}
 
 pub puts-append : (S : Shape) (q : ℕ) (w x : List ℕ) → puts S q (w ++ x) ≡ outputs S q w ++ puts S (walk S q w) x
 puts-append S q [] x = refl

@@ -9,7 +9,8 @@ use Rattle.words.specs.Word.{Below}
 use Rattle.transducers.specs.Transducer.{Shape, puts}
 use Rattle.transducers.specs.Table.{Step, Row, Table, no-step, no-row, row, step, shape}
 use Rattle.transducers.specs.Run.{walk}
-use Rattle.transducers.specs.Canonical.{Same, Inside, Early, Minimal, Numbered, Sound, Held, Canonical, Agree}
+use Rattle.transducers.specs.Canonical.{Same, Inside, Early, Minimal, Sound, Held, Canonical, Agree}
+use Rattle.transducers.specs.Numbered.{Numbered}
 use Rattle.transducers.proofs.Run.{earlier-in, earlier-place}
 use Rattle.transducers.specs.Tabulate.{tabulate, stepOf, rowOf, table, Rows, Doing}
 

@@ -1,13 +1,13 @@
--- What makes a transducer over k tags the smallest one, and its numbering the one of document 01.
+-- What makes a transducer over k tags the smallest one.
 use Prim.Native.Nat.{ℕ, suc, _≤_, _<_, _+_}
 use mathlib.Core.Path.{_≡_}
-use mathlib.Core.Logic.{_⊎_}
 use mathlib.Core.List.{List, []}
 use lib.ListN.{length}
 use Rattle.words.specs.Word.{Below}
 use Rattle.words.specs.Front.{first}
 use Rattle.transducers.specs.Transducer.{Shape, puts}
 use Rattle.transducers.specs.Run.{walk}
+use Rattle.transducers.specs.Numbered.{Numbered}
 
 -- P and Q answer alike on every word
 abbrev pub Same : ℕ → (List ℕ → List ℕ) → (List ℕ → List ℕ) → Type 0
@@ -41,22 +41,6 @@ pub record Minimal (k : ℕ) (S : Shape) : Type 0 where
   pub reached : (q : ℕ) → q < S .count → Reached k S q
   pub early : Early k S
   pub apart : (p q : ℕ) → p < S .count → q < S .count → Same k (puts S p) (puts S q) → p ≡ q
-
--- the step from p at b comes before that from q at a: "lower-numbered states first and within a state lower tags first"
-abbrev pub Before : ℕ → ℕ → ℕ → ℕ → Type 0
-Before p b q a = (p < q) ⊎ ((p ≡ q) × (b < a))
-
--- a step before that from p at a leads to q
-pub record Earlier (k : ℕ) (S : Shape) (p a q : ℕ) : Type 0 where
-  pub state : ℕ
-  pub tag : ℕ
-  pub tag-below : tag < k
-  pub before : Before state tag p a
-  pub leads : S .next state tag ≡ q
-
--- "States are numbered as first reached from state 0": where a step leads to a state, earlier steps have led to all lower ones but 0
-abbrev pub Numbered : ℕ → Shape → Type 0
-Numbered k S = (p a q : ℕ) → p < S .count → a < k → 0 < q → q < S .next p a → Earlier k S p a q
 
 -- what every transducer of a cascade over k tags keeps: "each step from a state holding d to one holding e puts out exactly
 -- d + 1 − e tags", "every tag is below K, every next state below S, state 0 holds nothing"

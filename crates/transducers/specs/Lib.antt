@@ -2,6 +2,7 @@
 pub mod Transducer
 pub mod Table
 pub mod Run
+pub mod Numbered
 pub mod Canonical
 pub mod Tabulate
 pub mod Compose

@@ -4,8 +4,8 @@
 use Prim.Native.Nat.{ℕ, _<_}
 use mathlib.Core.List.{List, [], _∷_, _++_, map}
 use lib.ListN.{length, getD, drop}
-use Rattle.words.specs.Word.{Below}
-use Rattle.words.specs.Front.{Prefix, meet}
+use Rattle.words.specs.Word.{Below, Prefix}
+use Rattle.words.specs.Front.{meet}
 use Rattle.transducers.specs.Transducer.{Shape, puts}
 use Rattle.transducers.specs.Table.{Step, Table, row, shape}
 use Rattle.transducers.specs.Rounds.{rounds, total}

@@ -9,7 +9,8 @@ use lib.ListN.{length, drop, length-append}
 use lib.Seq.{drop-append-seam}
 use lib.Dec.{eqb}
 use borrow.Author.Tests.{eqb-true, eq-eqb}
-use Rattle.words.specs.Front.{Prefix, meet, equal, same, sameAll}
+use Rattle.words.specs.Front.{meet, sameAll}
+use Rattle.words.specs.Word.{Prefix, equal, same}
 
 pub begins-nil : (z : List ℕ) → Prefix [] z
 begins-nil z = record { rest = z; split = refl }

@@ -7,8 +7,7 @@ use lib.ListN.{length, getD}
 use Rattle.answers.specs.Outcome.{Outcome}
 use Rattle.cascades.specs.Rule.{Cascade}
 use Rattle.books.specs.Kept.{Kept, kept}
-use Rattle.books.specs.Resume.{readCommands}
-use Rattle.books.specs.Answer.{cascadeOutcome}
+use Rattle.books.specs.Resume.{readCommands, cascadeOutcome}
 use Rattle.books.specs.declared.BookAnswer.{BookAnswer}
 use Rattle.books.proofs.Commands.{end-fault, end-more, end-whole}
 use Rattle.books.proofs.end_book.Statement.{statement}

@@ -6,8 +6,7 @@ use mathlib.Core.Path.{_≡_, refl, _∙_, sym, ap}
 use lib.ListN.{length}
 use Rattle.limits.specs.Limits.{most-rules}
 use Rattle.books.specs.Kept.{kept, Shaped}
-use Rattle.books.specs.Resume.{readCommands}
-use Rattle.books.specs.Answer.{cascadeOutcome}
+use Rattle.books.specs.Resume.{readCommands, cascadeOutcome}
 use Rattle.books.specs.declared.BookAnswer.{BookAnswer}
 use Rattle.books.proofs.Commands.{command-missing}
 use Rattle.books.proofs.Resume.{refused-ends, book-goes-on}

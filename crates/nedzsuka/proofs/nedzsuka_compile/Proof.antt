@@ -2,8 +2,8 @@
 use borrow.Author.Needs.{needs}
 use mathlib.Core.Path.{sym, ap, _∙_, subst}
 use lib.ListN.{length}
-use Rattle.nedzsuka.specs.Packed.{packed, Fits}
-use Rattle.nedzsuka.proofs.Fit.{fits-compile}
+use Rattle.nedzsuka.specs.Packed.{packed, Legible}
+use Rattle.nedzsuka.proofs.Number.{legible-compile}
 use Rattle.nedzsuka.proofs.nedzsuka_compile.Statement.{statement}
 use Rattle.nedzsuka.proofs.nedzsuka_compile.Tie as tie
 use Rattle.nedzsuka.proofs.nedzsuka_compile.Reads as reads
@@ -25,7 +25,7 @@ returns c =
 pack-compile-requires : tie.Need-pack-compile-requires
 pack-compile-requires c κs =
     let a = c .before .before .before .before .before .before .before .before .before .before .args in
-    subst Fits (sym (c .before .before .before .before .compile .ensures .0)) (fits-compile (a .book .now) (a .ceiling) (length (a .work .now)) (length (a .out .now)))
+    subst Legible (sym (c .before .before .before .before .compile .ensures .0)) (legible-compile (a .book .now) (a .ceiling) (length (a .work .now)) (length (a .out .now)))
 
 -- src/lib.rt:56:1
 same-length : tie.Need-same-length

@@ -2,8 +2,8 @@
 use borrow.Author.Needs.{needs}
 use mathlib.Core.Path.{sym, ap, _∙_, subst}
 use lib.ListN.{length}
-use Rattle.nedzsuka.specs.Packed.{packed, Fits}
-use Rattle.nedzsuka.proofs.Fit.{fits-table}
+use Rattle.nedzsuka.specs.Packed.{packed, Legible}
+use Rattle.nedzsuka.proofs.Number.{legible-table}
 use Rattle.nedzsuka.proofs.nedzsuka_run_table.Statement.{statement}
 use Rattle.nedzsuka.proofs.nedzsuka_run_table.Tie as tie
 use Rattle.nedzsuka.proofs.nedzsuka_run_table.Reads as reads
@@ -25,7 +25,7 @@ returns c =
 pack-run-requires : tie.Need-pack-run-requires
 pack-run-requires c κs =
     let a = c .before .before .before .before .before .before .before .args in
-    subst Fits (sym (c .before .before .run-table .ensures .0)) (fits-table (a .table .now) (a .sentence .now) (length (a .out .now)))
+    subst Legible (sym (c .before .before .run-table .ensures .0)) (legible-table (a .table .now) (a .sentence .now) (length (a .out .now)))
 
 -- src/lib.rt:77:1
 same-length : tie.Need-same-length

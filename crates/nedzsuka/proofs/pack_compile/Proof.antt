@@ -3,7 +3,7 @@ use borrow.Author.Needs.{needs}
 use mathlib.Core.Path.{sym, ap, _∙_, subst}
 use Rattle.compiler.specs.Answer.{compileOutcome}
 use Rattle.compiler.specs.declared.CompileAnswer.{CompileAnswer}
-use Rattle.nedzsuka.specs.Packed.{packed, Fits}
+use Rattle.nedzsuka.specs.Packed.{packed, Legible}
 use Rattle.nedzsuka.proofs.pack_compile.Statement.{statement}
 use Rattle.nedzsuka.proofs.pack_compile.Tie as tie
 use Rattle.nedzsuka.proofs.pack_compile.Reads as reads
@@ -17,7 +17,7 @@ enum-known-answer c = search needs
 
 -- src/lib.rt:50:39
 pack-requires : tie.Need-pack-requires
-pack-requires c κs = subst (λ (r : CompileAnswer). Fits (compileOutcome r)) (c .before .answer .given .1) (c .before .before .before .pre)
+pack-requires c κs = subst (λ (r : CompileAnswer). Legible (compileOutcome r)) (c .before .answer .given .1) (c .before .before .before .pre)
 
 -- src/lib.rt:51:32
 enum-known-answer-2 : tie.Need-enum-known-answer-2
@@ -25,7 +25,7 @@ enum-known-answer-2 c = search needs
 
 -- src/lib.rt:51:42
 pack-refusal-requires : tie.Need-pack-refusal-requires
-pack-refusal-requires c κs = subst (λ (r : CompileAnswer). Fits (compileOutcome r)) (c .before .answer2 .given .1) (c .before .before .before .pre)
+pack-refusal-requires c κs = subst (λ (r : CompileAnswer). Legible (compileOutcome r)) (c .before .answer2 .given .1) (c .before .before .before .pre)
 
 -- src/lib.rt:45:1
 returns : tie.Need-returns

@@ -5,7 +5,7 @@ use Prim.Native.Nat.{ℕ}
 use mathlib.Core.Path.{sym, ap, _∙_, subst}
 use Rattle.answers.specs.Answer.{refusal}
 use Rattle.answers.specs.declared.Refusal.{Refusal}
-use Rattle.nedzsuka.specs.Packed.{packed, Fits}
+use Rattle.nedzsuka.specs.Packed.{packed, Legible}
 use Rattle.nedzsuka.proofs.pack_refusal.Statement.{statement}
 use Rattle.nedzsuka.proofs.pack_refusal.Tie as tie
 use Rattle.nedzsuka.proofs.pack_refusal.Reads as reads
@@ -27,7 +27,7 @@ enum-known-given-2 c = search needs
 -- src/lib.rt:30:45
 pack-requires-2 : tie.Need-pack-requires-2
 pack-requires-2 c κs =
-    omega (arith, subst (λ (r : Refusal). Fits (refusal {A = ℕ} r)) (c .before .given2 .given .1) (c .before .before .before .pre))
+    omega (arith, subst (λ (r : Refusal). Legible (refusal {A = ℕ} r)) (c .before .given2 .given .1) (c .before .before .before .pre) .2)
 
 -- src/lib.rt:31:25
 enum-known-given-3 : tie.Need-enum-known-given-3

@@ -3,7 +3,7 @@ use borrow.Author.Needs.{needs}
 use mathlib.Core.Path.{sym, ap, _∙_, subst}
 use Rattle.answers.specs.Answer.{runOutcome}
 use Rattle.answers.specs.declared.RunAnswer.{RunAnswer}
-use Rattle.nedzsuka.specs.Packed.{packed, Fits}
+use Rattle.nedzsuka.specs.Packed.{packed, Legible}
 use Rattle.nedzsuka.proofs.pack_run.Statement.{statement}
 use Rattle.nedzsuka.proofs.pack_run.Tie as tie
 use Rattle.nedzsuka.proofs.pack_run.Reads as reads
@@ -17,7 +17,7 @@ enum-known-answer c = search needs
 
 -- src/lib.rt:40:38
 pack-requires : tie.Need-pack-requires
-pack-requires c κs = subst (λ (r : RunAnswer). Fits (runOutcome r)) (c .before .answer .given .1) (c .before .before .before .pre)
+pack-requires c κs = subst (λ (r : RunAnswer). Legible (runOutcome r)) (c .before .answer .given .1) (c .before .before .before .pre)
 
 -- src/lib.rt:41:28
 enum-known-answer-2 : tie.Need-enum-known-answer-2
@@ -25,7 +25,7 @@ enum-known-answer-2 c = search needs
 
 -- src/lib.rt:41:38
 pack-refusal-requires : tie.Need-pack-refusal-requires
-pack-refusal-requires c κs = subst (λ (r : RunAnswer). Fits (runOutcome r)) (c .before .answer2 .given .1) (c .before .before .before .pre)
+pack-refusal-requires c κs = subst (λ (r : RunAnswer). Legible (runOutcome r)) (c .before .answer2 .given .1) (c .before .before .before .pre)
 
 -- src/lib.rt:35:1
 returns : tie.Need-returns

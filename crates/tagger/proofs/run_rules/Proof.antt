@@ -1,11 +1,12 @@
 -- `tagger::run_rules` meets its contract.
 use borrow.Author.Needs.{needs}
+use mathlib.Core.Path.{sym}
 use Prim.Native.Nat.{ℕ}
 use mathlib.Core.List.{List, reverse}
 use lib.ListN.{length}
 use Rattle.answers.specs.Outcome.{Outcome}
 use Rattle.sentences.specs.Run.{run}
-use Rattle.sentences.proofs.Laws.{result-room, ran-refused, ran-changed}
+use Rattle.sentences.proofs.Laws.{run-accepts, ran-refused, ran-changed}
 use Rattle.cascades.specs.Rewrite.{behavior}
 use Rattle.books.specs.Kept.{kept, rulesDown}
 use Rattle.tagger.proofs.Laws.{run-refused, run-admitted}
@@ -53,8 +54,8 @@ write-rules-requires c κs =
       (
         st .pre .1 .0,
         st .pre .1 .1,
-        result-room (st .args .k) (st .args .sentence .now) (length (st .args .out .now)) (made st)
-            (run-admitted (a .result) (outcome st) (made st) (a .ensures (made st)) (c .before .enum-told .given .1)),
+        run-accepts (st .args .k) (st .args .sentence .now) (length (st .args .out .now)) (made st) (made st)
+            (sym (run-admitted (a .result) (outcome st) (made st) (a .ensures (made st)) (c .before .enum-told .given .1))) .0 .fits,
       ),
     )
 

@@ -1,0 +1,78 @@
+-- Demand 2: "Every sentence not refused becomes what the published definition makes of it, through the book or through its table".
+-- `bookRun` and `tableRun` are what the two runs answer and write.
+use Prim.Native.Nat.{ℕ, _<_}
+use native.Mathlib.Omega.{arith}
+use mathlib.Core.Path.{_≡_, refl, sym, ap, _∙_, subst}
+use mathlib.Core.Logic.{_↔_}
+use mathlib.Core.List.{List}
+use Rattle.words.specs.Word.{Below}
+use Rattle.answers.specs.Outcome.{Outcome, result, refused, andThen}
+use Rattle.sentences.specs.Run.{run, Accepted}
+use Rattle.sentences.proofs.Laws.{run-accepts, accepted-run, run-same}
+use Rattle.cascades.specs.Rule.{Cascade}
+use Rattle.cascades.specs.Rewrite.{behavior}
+use Rattle.books.specs.Read.{read}
+use Rattle.books.proofs.Encode.{reads-exactly}
+use Rattle.tagger.specs.Run.{bookRun}
+use Rattle.transducers.specs.Transducer.{puts}
+use Rattle.transducers.specs.Table.{shape}
+use Rattle.tables.specs.Decode.{Decoded, decode}
+use Rattle.tables.specs.Run.{tableRun}
+use Rattle.tables.proofs.Theorem.{decoded}
+use Rattle.compilation.specs.Compile.{compileAnswer}
+use Rattle.compilation.specs.Demand.{BookMakes, TableMakes}
+use Rattle.compilation.proofs.Demand.{compiled}
+
+-- a run goes on only with what was read
+then-result : {A B : Type 0} (o : Outcome A) (f : A → Outcome B) (b : B) → andThen o f ≡ result b → (a : A) × (o ≡ result a) × (f a ≡ result b)
+then-result (result a) f b e = (a, refl, e)
+then-result (refused n p) f b e = let z : _≡_ {A = ℕ} 0 1 = cc in absurd (omega arith)
+
+module _ (sentence : List ℕ) (room : ℕ) (made : List ℕ) where
+  -- a book's run gives a result exactly if the book is valid and the sentence not refused, and it is what the rules leave
+  pub book-makes : (book : List ℕ) → (bookRun book sentence room ≡ result made) ↔ BookMakes book sentence room made
+  book-makes book = (to, from)
+    where
+      to : bookRun book sentence room ≡ result made → BookMakes book sentence room made
+      to e =
+          let t = then-result (read book) (λ b. run (b .tags) sentence room (behavior (b .rules) sentence)) made e in
+          let c = t .0 in
+          let a = run-accepts (c .tags) sentence room (behavior (c .rules) sentence) made (t .2) in
+          record { cascade = c; reads = t .1; accepted = a .0; made-is = a .1 }
+
+      from : BookMakes book sentence room made → bookRun book sentence room ≡ result made
+      from h =
+          let c = h .cascade in
+          let v = reads-exactly book c .0 (h .reads) .0 in
+          let r = accepted-run (c .tags) sentence room (behavior (c .rules) sentence) (omega (arith, v .enough-tags)) (h .accepted) in
+          rw (h .reads) (r ∙ ap result (sym (h .made-is)))
+
+  -- a table's run likewise: what the table's transducer puts out
+  pub table-makes : (bytes : List ℕ) → Below 0x100 bytes → (tableRun bytes sentence room ≡ result made) ↔ TableMakes bytes sentence room made
+  table-makes bytes b = (to, from)
+    where
+      to : tableRun bytes sentence room ≡ result made → TableMakes bytes sentence room made
+      to e =
+          let t = then-result (decode bytes) (λ d. run (d .tags) sentence room (puts (shape (d .table)) 0 sentence)) made e in
+          let d = t .0 in
+          let a = run-accepts (d .tags) sentence room (puts (shape (d .table)) 0 sentence) made (t .2) in
+          record { decoded = d; decodes = t .1; accepted = a .0; made-is = a .1 }
+
+      from : TableMakes bytes sentence room made → tableRun bytes sentence room ≡ result made
+      from h =
+          let d = h .decoded in
+          let v = decoded bytes d b (h .decodes) .0 in
+          let r = accepted-run (d .tags) sentence room (puts (shape (d .table)) 0 sentence) (omega (arith, v .tags-least)) (h .accepted) in
+          rw (h .decodes) (r ∙ ap result (sym (h .made-is)))
+
+-- the run of a compiled table is the run of its book, for every sentence and every output slice, the refusals included
+pub same-run : (book : List ℕ) (n work room : ℕ) (bytes : List ℕ) → compileAnswer book n work room ≡ result bytes
+    → (sentence : List ℕ) (slice : ℕ) → tableRun bytes sentence slice ≡ bookRun book sentence slice
+same-run book n work room bytes e sentence slice =
+    let c = compiled book n work room bytes e in
+    let b = c .cascade in
+    let t = c .smallest .table in
+    let r =
+    run-same (b .tags) sentence slice (puts (shape t) 0 sentence) (behavior (b .rules) sentence) (c .smallest .does sentence)
+    in
+    rw (c .smallest .decodes, c .premises .reads) r
