@@ -1,10 +1,4 @@
-// Answers lines of standard input by calls of the libraries, each line with what the call answered behind it:
-//   book BYTES                      reads a book
-//   run BYTES : SENTENCE            runs a book over a sentence, into a slice two bytes longer
-//   short BYTES : SENTENCE          the same into a slice one byte too short
-//   long BYTES : NUMBER             the same over a sentence of that many zeros
-//   proof SENTENCE : RESULT         the proof sheet
-// Bytes and tags are hexadecimal. Any other line is only written.
+// Answers lines of standard input by calls of the libraries; docs/console.md has the lines and what each is answered.
 mod text;
 
 use answers::Refusal;
@@ -12,8 +6,14 @@ use answers::RunAnswer;
 use books::BookAnswer;
 use libc::STDIN_FILENO;
 use libc::STDOUT_FILENO;
+use text::Call;
+use text::Fault;
+use text::Operand;
+use text::Word;
 ghost use mathlib.Core.Path.{_≡_};
+ghost use Prim.Native.Nat.{_≤_};
 ghost use lib.ListN.{length};
+ghost use Rattle.console.specs.Operand.{Within};
 
 fn put(bytes: &[u8]) {
     io::write_all(STDOUT_FILENO, bytes);
@@ -65,8 +65,19 @@ fn put_run(answer: RunAnswer) {
     }
 }
 
-fn answer_book(book: &[u8]) {
-    match books::read_book(book) {
+fn put_fault(fault: Fault) {
+    match fault {
+        Fault::Word => put(b" unknown word"),
+        Fault::Colon => put(b" no colon"),
+        Fault::Hexadecimal => put(b" bad hexadecimal"),
+        Fault::Number => put(b" bad number"),
+        Fault::Empty => put(b" empty sentence"),
+        Fault::Long => put(b" too long"),
+    }
+}
+
+fn put_book(answer: BookAnswer) {
+    match answer {
         BookAnswer::Book { tags, rules } => {
             put(b" tags ");
             put_number(tags as usize);
@@ -77,11 +88,11 @@ fn answer_book(book: &[u8]) {
     }
 }
 
-// What output slices hold before a call.
-fn filled() -> [u8; 4096]
-    ensures { λ r. ⌜ 4096 ≡ length r ⌝ }
+// What output slices hold before a call: two bytes more than the longest sentence.
+fn filled() -> [u8; 70002]
+    ensures { λ r. ⌜ 70002 ≡ length r ⌝ }
 {
-    [0xee; 4096]
+    [0xee; 70002]
 }
 
 fn zeros() -> [u8; 70000]
@@ -96,76 +107,129 @@ fn run_into(book: &[u8], sentence: &[u8], out: &mut [u8]) {
     put_bytes(out);
 }
 
-fn answer_run(book: &[u8], sentence: &[u8], room: usize) {
+fn answer_run(book: &[u8], sentence: &[u8], room: usize)
+    requires { ⌜ room ≤ 70002 ⌝ }
+{
     let mut out = filled();
-    let n = text::clip(room, &out);
-    run_into(book, sentence, &mut out[..n]);
+    run_into(book, sentence, &mut out[..room]);
 }
 
-fn answer_long(book: &[u8], n: usize) {
-    let sentence = zeros();
-    let mut out = zeros();
-    let n = text::clip(n, &sentence);
-    let m = text::clip(n, &out);
-    put_run(tagger::run_book(book, &sentence[..n], &mut out[..m]));
+// Into a slice one byte too short.
+fn answer_short(book: &[u8], sentence: &[u8])
+    requires { ⌜ length (now sentence) ≤ 70000 ⌝ }
+{
+    let n = sentence.len();
+    if n == 0 {
+        put_fault(Fault::Empty);
+    } else {
+        answer_run(book, sentence, n - 1);
+    }
+}
+
+fn answer_long(book: &[u8], sentence: &[u8]) {
+    let mut out = filled();
+    put_run(tagger::run_book(book, sentence, &mut out));
 }
 
 fn answer_sheet<'a>(sentence: &'a [u8], result: &'a [u8]) {
     put_bytes(spans::changed_span(sentence, result));
 }
 
-fn answer<'a>(word: u8, a: &'a [u8], b: &'a [u8], number: usize) {
-    let n = b.len();
-    if 4000 < n {
-        return;
-    }
-    match word {
-        b'b' => answer_book(a),
-        b'r' => answer_run(a, b, n + 2),
-        b's' => {
-            if 0 < n {
-                answer_run(a, b, n - 1);
-            }
-        }
-        b'l' => answer_long(a, number),
-        b'p' => answer_sheet(a, b),
-        _ => {}
+// Of `book` the second operand is empty.
+fn answer<'a>(call: Call, a: &'a [u8], b: &'a [u8])
+    requires { ⌜ length (now b) ≤ 70000 ⌝ }
+{
+    match call {
+        Call::Book => put_book(books::read_book(a)),
+        Call::Run => answer_run(a, b, b.len() + 2),
+        Call::Short => answer_short(a, b),
+        Call::Long => answer_long(a, b),
+        Call::Proof => answer_sheet(a, b),
     }
 }
 
-// The parts of a line before and behind its colon.
-fn answer_parts(word: u8, left: &[u8], right: &[u8]) {
+// The second operand, at the front of `out`, which holds zeros.
+fn read_second(call: Call, text: &[u8], out: &mut [u8]) -> Operand
+    requires { ⌜ length (now out) ≤ 70000 ⌝ }
+    ensures { λ r. ⌜ Within (length (now (out .exit))) r ⌝ }
+{
+    match call {
+        Call::Long => text::decimal(text, out.len()),
+        _ => text::hex_bytes(text, out),
+    }
+}
+
+fn answer_operands(call: Call, left: &[u8], right: &[u8]) {
     let mut a = io::buffer();
-    let mut b = io::buffer();
-    let m = text::hex_bytes(left, &mut a);
-    let n = text::hex_bytes(right, &mut b);
-    answer(word, &a[..m], &b[..n], text::decimal(right));
+    let mut b = zeros();
+    match text::hex_bytes(left, &mut a) {
+        Operand::Wrong(fault) => put_fault(fault),
+        Operand::Bytes(m) => match read_second(call, right, &mut b) {
+            Operand::Wrong(fault) => put_fault(fault),
+            Operand::Bytes(n) => answer(call, &a[..m], &b[..n]),
+        },
+    }
+}
+
+// The operands before and after the colon.
+fn answer_parts(call: Call, rest: &[u8]) {
+    let colon = text::find(rest, b':', 0);
+    if colon < rest.len() {
+        answer_operands(call, &rest[..colon], &rest[colon + 1..]);
+    } else {
+        put_fault(Fault::Colon);
+    }
+}
+
+fn answer_call(call: Call, rest: &[u8]) {
+    match call {
+        Call::Book => answer_operands(call, rest, b""),
+        _ => answer_parts(call, rest),
+    }
+}
+
+fn answer_word(word: Word, rest: &[u8]) {
+    match word {
+        Word::Known(call) => answer_call(call, rest),
+        Word::Unknown => put_fault(Fault::Word),
+    }
 }
 
 fn answer_line(line: &[u8]) {
     put(line);
-    if 0 < line.len() {
-        if line[0] != b'#' {
-            put(b" ->");
-        }
+    if 0 < line.len() && line[0] != b'#' {
+        put(b" ->");
         let space = text::find(line, b' ', 0);
-        let colon = text::find(line, b':', space);
-        answer_parts(line[0], &line[space..colon], &line[colon..]);
+        answer_word(text::read_word(&line[..space]), &line[space..]);
     }
     put(b"\n");
 }
 
-fn answer_lines(input: &[u8]) {
+// The lines of the input; of an input that is cut, those whose ends were read.
+fn answer_lines(input: &[u8], cut: bool) {
     let mut start = 0;
     while start < input.len() {
         let end = text::find(input, b'\n', start);
+        if cut && end == input.len() {
+            return;
+        }
         answer_line(&input[start..end]);
         start = end + 1;
     }
 }
 
+// Whether there is input left.
+fn goes_on() -> bool {
+    let mut next = [0u8; 1];
+    0 < io::read_full(STDIN_FILENO, &mut next)
+}
+
 fn main() {
     let mut input = io::large_buffer();
     let n = io::read_full(STDIN_FILENO, &mut input);
-    answer_lines(&input[..n]);
+    let cut = n == input.len() && goes_on();
+    answer_lines(&input[..n], cut);
+    if cut {
+        put(b"input cut\n");
+    }
 }

@@ -1,8 +1,9 @@
 -- `console::text::find` stays within the text.
-use Prim.Native.Nat.{_≤_, _+_, _-_}
+use Prim.Native.Nat.{_≤_, _-_}
 use native.Mathlib.Omega.{arith}
 use borrow.Author.Needs.{needs}
-use mathlib.Core.Path.{_≡_}
+use mathlib.Core.Path.{sym}
+use lib.Seq.{length-take-le}
 use lib.ListN.{length}
 use Rattle.console.proofs.text.find.Statement.{statement}
 use Rattle.console.proofs.text.find.Tie as tie
@@ -15,33 +16,26 @@ Inv-loop text byte start i₀ i = (start ≤ i) × (i ≤ length text)
 abbrev μ-loop : tie.MeasureT-loop
 μ-loop text byte start i₀ i = length text - i
 
--- src/text.rt:11:5
 loop-holds : tie.Need-loop-holds Inv-loop μ-loop
 loop-holds c = search needs
 
--- src/text.rt:12:12
 shared-slice-read-if1 : tie.Need-shared-slice-read-if1 Inv-loop μ-loop
 shared-slice-read-if1 c = search needs
 
--- src/text.rt:13:13
 returns : tie.Need-returns Inv-loop μ-loop
-returns c = search needs
+returns c = (omega arith, (omega arith, sym (length-take-le _ _ (omega arith))))
 
--- src/text.rt:15:9
 add-i : tie.Need-add-i Inv-loop μ-loop
 add-i c = search needs
 
--- src/text.rt:11:5
 loop-less : tie.Need-loop-less Inv-loop μ-loop
 loop-less c = search needs
 
--- src/text.rt:11:5
 loop-again : tie.Need-loop-again Inv-loop μ-loop
 loop-again c = search needs
 
--- src/text.rt:6:1
 returns-2 : tie.Need-returns-2 Inv-loop μ-loop
-returns-2 c = search needs
+returns-2 c = (omega arith, (omega arith, sym (length-take-le _ _ (omega arith))))
 
 pub find-spec : {M : Type 1} → statement M
 find-spec =

@@ -1,0 +1,2 @@
+-- Laws of operands.
+pub mod Operand

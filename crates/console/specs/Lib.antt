@@ -1,0 +1,2 @@
+-- What an operand reads as.
+pub mod Operand
