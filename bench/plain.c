@@ -137,7 +137,7 @@ struct places {
     uint8_t held[256];
 };
 
-/* Reads one state from byte i on; the byte behind it, or 0 if it is not well formed. */
+/* Reads one state from byte i on; the byte after it, or 0 if it is not well formed. */
 static size_t read_state(const uint8_t *t, size_t n, size_t i, int q, int tags, int states, struct places *p)
 {
     if (i + 1 >= n || t[i] != 0x31 || t[i + 1] > 80)

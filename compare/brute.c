@@ -6,7 +6,7 @@
 
 enum { LONGEST_ACCESS = 48, MOST_TAILS = 1 << 14, LONGEST_TRIED = LONGEST_ACCESS + 16, VIEW_BYTES = 1 << 18 };
 
-/* A word with its P, the common front of what the book makes of it with any tail, and what is left behind P for each tail. */
+/* A word with its P, the common front of what the book makes of it with any tail, and what is left after P for each tail. */
 struct view {
     uint8_t word[LONGEST_ACCESS + 1], front[LONGEST_TRIED];
     size_t word_length, front_length, residual_length;

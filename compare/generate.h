@@ -26,7 +26,7 @@ struct made_book separate_book(size_t tags, size_t rules, size_t longest);
 /* Rules each of which waits for the tag that the one before may put in place, so that states hold many tags. */
 struct made_book holding_book(size_t tags, size_t rules, size_t longest);
 size_t write_book(const struct made_book *book, uint8_t *bytes);
-/* One more pattern tag, or one more rule, behind the last: more than a book may have, if it has the most already. The rule's operands
+/* One more pattern tag, or one more rule, after the last: more than a book may have, if it has the most already. The rule's operands
    may be wrong or missing. */
 size_t lengthen_book(uint8_t *bytes, size_t length, size_t tags);
 /* A table, hardly ever the smallest. Its last state holds the most, so that it is well formed exactly if the sizes are within the bounds

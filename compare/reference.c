@@ -201,7 +201,7 @@ static void put(struct word *word, int tag)
     word->tag[word->length++] = (uint8_t)tag;
 }
 
-/* The next byte, or -1 behind the last. */
+/* The next byte, or -1 after the last. */
 static int take(struct cursor *cursor)
 {
     return cursor->place < cursor->length ? cursor->bytes[cursor->place++] : -1;
@@ -326,7 +326,7 @@ static int matched_after(const struct rule *rule, int matched, int tag)
     return longest;
 }
 
-/* Feeds one tag to the rule; what it puts out goes behind the word. */
+/* Feeds one tag to the rule; what it puts out goes after the word. */
 static int feed(const struct rule *rule, int matched, int tag, struct word *word)
 {
     int next, free_tags;

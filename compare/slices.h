@@ -1,4 +1,4 @@
-/* Slices lent to a call: guard bytes around each, or an inaccessible page right before or behind it. */
+/* Slices lent to a call: guard bytes around each, or an inaccessible page right before or after it. */
 #ifndef SLICES_H
 #define SLICES_H
 

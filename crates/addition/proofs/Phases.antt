@@ -1,4 +1,4 @@
--- The phases one behind the other: what stands in the rows after each is what the next one needs.
+-- The phases one after the other: what stands in the rows after each is what the next one needs.
 use Prim.Native.Nat.{ℕ, _+_, _-_, _*_, _≤_}
 use native.Mathlib.Omega.{arith}
 use native.Mathlib.Nat.{mul-le-mul-left}

@@ -1,10 +1,10 @@
-// One more rule: the phases, one behind the other.
+// One more rule: the phases, one after the other.
 use workspace::Grid;
 ghost use Rattle.onerule.specs.Rule.{rule};
 ghost use Rattle.addition.specs.Addition.{Addable, Added};
 
 // Adds a rule to the table in the first n rows: the number of states. The table with the rule stands in the rows from 0 if they are no
-// more than the ceiling. The composition is made in the rows from the ceiling, the rule's transducer behind it.
+// more than the ceiling. The composition is made in the rows from the ceiling, the rule's transducer after it.
 pub fn add_rule(
     work: &mut [u16],
     g: Grid,

@@ -79,7 +79,7 @@ down-same : (a a' : Kept) (m : ℕ) → ((i : ℕ) → i < m → ruleAt a' i ≡
 down-same a a' zero h = refl
 down-same a a' (suc m) h = cc (h m (omega arith), down-same a a' m (λ i l. h i (omega arith)))
 
--- the arrays after the tag t has been put behind the pattern of the rule i
+-- the arrays after the tag t has been put after the pattern of the rule i
 abbrev pub tagged-kept : Kept → ℕ → ℕ → Kept
 tagged-kept a i t =
     kept

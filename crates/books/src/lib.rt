@@ -204,7 +204,7 @@ fn read_rule(
     refused(1, at)
 }
 
-// The commands behind 20 and K.
+// The commands after 20 and K.
 fn read_commands(
     s: &[u8],
     k0: u8,

@@ -54,7 +54,7 @@ first-other u s i h k e =
 
 -- ---- the search
 
--- a rewriting of s begins at i or behind it
+-- a rewriting of s begins at i or after it
 abbrev pub From : List ℕ → List ℕ → List ℕ → ℕ → Type 0
 From u v s i = rewrite u v s ≡ take i s ++ rewrite u v (drop i s)
 

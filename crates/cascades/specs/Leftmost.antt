@@ -5,7 +5,7 @@ use mathlib.Core.Logic.{_⊎_}
 use mathlib.Core.List.{List, [], _∷_, _++_}
 use Rattle.words.specs.Word.{Prefix}
 
--- u occurs in w behind z
+-- u occurs in w after z
 abbrev pub OccursAt : List ℕ → List ℕ → List ℕ → Type 0
 OccursAt u w z = (y : List ℕ) × (w ≡ z ++ (u ++ y))
 

@@ -1,7 +1,7 @@
 // Sentences drawn from a sequence of numbers.
 ghost use Prim.Native.Nat.{_<_};
 
-// The number behind x, as many a C library has it.
+// The number after x, as many a C library has it.
 fn next(x: u32) -> u32 {
     ((x as u64 * 1103515245 + 12345) % 0x80000000) as u32
 }
@@ -12,7 +12,7 @@ fn tag(x: u32, k: u8) -> u8
     (x / 0x1000000) as u8 % k
 }
 
-// Tags below k, as the numbers behind x give them.
+// Tags below k, as the numbers after x give them.
 pub fn draw(s: &mut [u8], k: u8, from: u32)
     requires { ⌜ 0 < k ⌝ }
 {

@@ -1,4 +1,4 @@
-// Tables that are built in a buffer; each function answers the place behind what it wrote, and writes nothing past the end.
+// Tables that are built in a buffer; each function answers the place after what it wrote, and writes nothing past the end.
 ghost use mathlib.Core.Path.{_≡_};
 ghost use Prim.Native.Nat.{_≤_};
 ghost use lib.ListN.{length};
@@ -84,7 +84,7 @@ fn echo(buf: &mut [u8], from: usize, next: usize) -> usize
     pair(buf, d, 0x34, 1)
 }
 
-// A row of `states` states of two tags, each going to the one behind it and the last to itself; `s` is the S in the head.
+// A row of `states` states of two tags, each going to the one after it and the last to itself; `s` is the S in the head.
 pub fn row(buf: &mut [u8], s: usize, states: usize) -> usize
     ensures { λ r. ⌜ r ≤ length (now (buf .exit)) ⌝ }
 {

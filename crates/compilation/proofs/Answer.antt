@@ -5,7 +5,7 @@ use native.Mathlib.Decide.{decLt}
 use mathlib.Core.Path.{_≡_, refl, sym, ap, _∙_, subst}
 use mathlib.Core.Bool.{Bool, true, false, _&&_}
 use mathlib.Core.List.{List, [], _∷_, _++_, append-assoc, append-nil}
-use borrow.Author.Tests.{leb-true, leb-false, le-leb}
+use borrow.Author.Tests.{leb-true, le-leb, lt-leb}
 use lib.Dec.{leb}
 use lib.ListN.{length, take, length-append}
 use lib.Seq.{take-at}
@@ -50,52 +50,67 @@ few-next k n rs m f h j a b = by (decLt j (suc m))
     by (yes l) = f j a (omega arith)
     by (no l) = let e : suc m ≡ j = omega arith in subst (λ (i : ℕ). length (tableOf k (take i rs)) ≤ n) e h
 
--- behind the rules `done`
+module _ (k n : ℕ) (done : List Rule) (r : Rule) (rs : List Rule) (t : Table) where
+  -- the table with one more rule has too many states: 10 names as many rules as there are with it
+  with-over : n < length (add k t (ruleTable k r)) → withRules k n (length done) t (r ∷ rs) ≡ refused 10 (rule (length (done ++ (r ∷ []))))
+  with-over h =
+      let l : length (done ++ (r ∷ [])) ≡ suc (length done) = length-append done (r ∷ []) ∙ (omega arith) in
+      cc (l, lt-leb (length (add k t (ruleTable k r))) n h)
+
+  -- or not: it goes on with that table
+  with-next : length (add k t (ruleTable k r)) ≤ n → withRules k n (length done) t (r ∷ rs) ≡ withRules k n (length (done ++ (r ∷ []))) (add k t (ruleTable k r)) rs
+  with-next h =
+      let l : length (done ++ (r ∷ [])) ≡ suc (length done) = length-append done (r ∷ []) ∙ (omega arith) in
+      cc (l, le-leb (length (add k t (ruleTable k r))) n h)
+
+-- after the rules `done`
 told-from : (k n : ℕ) (done rs : List Rule) (t : Table) → t ≡ tableOf k done → Few k n (done ++ rs) (length done) → Told k n (done ++ rs) (withRules k n (length done) t rs)
 told-from k n done [] t e f =
     let l : length (done ++ []) ≡ length done = ap length (append-nil done) in
     let a : tableOf k (done ++ []) ≡ t = ap (tableOf k) (append-nil done) ∙ sym e in
     subst (λ (u : Table). Told k n (done ++ []) (result u)) a (fits (λ j x y. f j x (omega arith)))
-told-from k n done (r ∷ rs) t e f = by (leb (length u) n) refl (told-from k n (done ++ (r ∷ [])) rs u same)
+told-from k n done (r ∷ rs) t e f = by (decLt n (length u)) (told-from k n part rs u same)
   where
+    part : List Rule
+    part = done ++ (r ∷ [])
+
     u : Table
     u = add k t (ruleTable k r)
 
-    same : u ≡ tableOf k (done ++ (r ∷ []))
+    same : u ≡ tableOf k part
     same = ap (λ (x : Table). add k x (ruleTable k r)) e ∙ sym (tableOf-append k done r)
 
-    all : done ++ (r ∷ []) ++ rs ≡ done ++ (r ∷ rs)
+    all : part ++ rs ≡ done ++ (r ∷ rs)
     all = append-assoc done (r ∷ []) rs
 
-    long : length (done ++ (r ∷ [])) ≡ suc (length done)
+    long : length part ≡ suc (length done)
     long = length-append done (r ∷ []) ∙ (omega arith)
 
-    part : take (suc (length done)) (done ++ (r ∷ rs)) ≡ done ++ (r ∷ [])
-    part = subst (λ (x : List Rule). take (suc (length done)) x ≡ done ++ (r ∷ [])) all (take-at (done ++ (r ∷ [])) rs (suc (length done)) long)
+    front : take (length part) (done ++ (r ∷ rs)) ≡ part
+    front = subst (λ (x : List Rule). take (length part) x ≡ part) all (take-at part rs (length part) refl)
 
-    count : length (tableOf k (take (suc (length done)) (done ++ (r ∷ rs)))) ≡ length u
-    count = ap (λ (x : List Rule). length (tableOf k x)) part ∙ ap length (sym same)
+    count : length (tableOf k (take (length part) (done ++ (r ∷ rs)))) ≡ length u
+    count = ap (λ (x : List Rule). length (tableOf k x)) front ∙ ap length (sym same)
 
-    by : (b : Bool) → leb (length u) n ≡ b
-        → (Few k n (done ++ (r ∷ []) ++ rs) (length (done ++ (r ∷ []))) → Told k n (done ++ (r ∷ []) ++ rs) (withRules k n (length (done ++ (r ∷ []))) u rs))
-        → Told k n (done ++ (r ∷ rs)) (elim b [ true ↦ withRules k n (suc (length done)) u rs | false ↦ refused 10 (rule (suc (length done))) ])
-    by true g more =
-        let h : length u ≤ n = leb-true (length u) n g in
-        let next : Few k n (done ++ (r ∷ rs)) (suc (length done)) = few-next k n (done ++ (r ∷ rs)) (length done) f (omega (arith, count)) in
-        let next' : Few k n (done ++ (r ∷ []) ++ rs) (length (done ++ (r ∷ []))) =
-        λ j x y. subst (λ (s : List Rule). length (tableOf k (take j s)) ≤ n) (sym all) (next j x (omega (arith, long)))
-        in
-        subst (λ (m : ℕ). Told k n (done ++ (r ∷ rs)) (withRules k n m u rs)) long
-        (subst (λ (s : List Rule). Told k n s (withRules k n (length (done ++ (r ∷ []))) u rs)) all (more next'))
-    by false g more =
-        let h : n < length u = leb-false (length u) n g in
-        exceeds (suc (length done))
+    by : Dec (n < length u) → (Few k n (part ++ rs) (length part) → Told k n (part ++ rs) (withRules k n (length part) u rs))
+        → Told k n (done ++ (r ∷ rs)) (withRules k n (length done) t (r ∷ rs))
+    by (yes h) more =
+        subst (Told k n (done ++ (r ∷ rs))) (sym (with-over k n done r rs t h))
+        (exceeds (length part)
         (record {
-          some = omega arith;
-          inside = omega (arith, length-append done (r ∷ rs));
+          some = omega (arith, long);
+          inside = omega (arith, long, length-append done (r ∷ rs));
           more = omega (arith, count);
-          fewer = λ j x y. f j x (omega arith);
-        })
+          fewer = λ j x y. f j x (omega (arith, long));
+        }))
+    by (no h) more =
+        let few : length u ≤ n = omega arith in
+        let next : Few k n (done ++ (r ∷ rs)) (suc (length done)) =
+        few-next k n (done ++ (r ∷ rs)) (length done) f (subst (λ (m : ℕ). length (tableOf k (take m (done ++ (r ∷ rs)))) ≤ n) long (omega (arith, count)))
+        in
+        subst (Told k n (done ++ (r ∷ rs))) (sym (with-next k n done r rs t few))
+        (subst (λ (s : List Rule). Told k n s (withRules k n (length part) u rs)) all
+        (more (λ j x y. subst (λ (s : List Rule). length (tableOf k (take j s)) ≤ n) (sym all) (next j x (omega (arith, long))))))
 
 pub told : (k n : ℕ) (rs : List Rule) → Told k n rs (compileRules k n rs)
 told k n rs = told-from k n [] rs (tableOf k []) refl (λ j x y. absurd (omega arith))

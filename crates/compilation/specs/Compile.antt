@@ -20,7 +20,7 @@ abbrev pub unless : {A : Type 0} → ℕ → Bool → Outcome A → Outcome A
 unless n true o = o
 unless n false o = refused n nothing
 
--- the rules one by one, behind the first i of them, whose table is t: "10 with i: the first i rules need more than N states in every
+-- the rules one by one, after the first i of them, whose table is t: "10 with i: the first i rules need more than N states in every
 -- machine, i the least such"
 abbrev pub withRules : ℕ → ℕ → ℕ → Table → List Rule → Outcome Table
 withRules k n i t [] = result t

@@ -86,7 +86,7 @@ all-kept g W X Y some first rest =
     kept-then g (In-rows 0 (g .rows)) W X Y
     (kept-wider g (In-rows 0 (g .rows)) (In-rows 0 1) W X first (λ r c e p. (omega arith, omega (arith, p .1)))) rest
 
--- behind the identity's row
+-- after the identity's row
 pub begun : (g : Grid) (W X : List ℕ) (ceiling m : ℕ) (a : Arrays) → Compilable g W ceiling m a → length X ≡ length W → Compilable g X ceiling m a
 begun g W X ceiling m a ok long =
     record {
@@ -135,8 +135,9 @@ module _ (g : Grid) (W : List ℕ) (ceiling m : ℕ) (a : Arrays) (ok : Compilab
     sized-now : Sized g X
     sized-now = sized-kept g W X (ok .sized) (p .kept .long)
 
-    pub addable : i < m → Addable g X n ceiling (ruleAt a i)
-    addable h =
+    -- any valid rule can be added next
+    pub addable : i < m → (r : Rule) → ValidRule longest-pattern k r → Addable g X n ceiling r
+    addable h r v =
         let t = good-upto i (omega arith) in
         record {
           sized = sized-now;
@@ -149,7 +150,7 @@ module _ (g : Grid) (W : List ℕ) (ceiling m : ℕ) (a : Arrays) (ok : Compilab
           doing = rw at-is (t .doing);
           canonical = rw at-is (t .canonical);
           deep = omega (arith, ok .depth);
-          valid = ok .valid i h;
+          valid = v;
         }
 
     module _ (h : i < m) (Y : List ℕ) (count : ℕ) (added : Added g X Y n ceiling (ruleAt a i) count) where
@@ -194,25 +195,22 @@ module _ (g : Grid) (W : List ℕ) (ceiling m : ℕ) (a : Arrays) (ok : Compilab
       pub kept-too-many : Kept g W Y (In-rows 0 (g .rows))
       kept-too-many = kept-now
 
+    pub ready : Ready g X 0 n
+    ready =
+        let t = good-upto i (p .inside) in
+        record {
+          sized = sized-now;
+          inside = omega (arith, p .few, ok .rows);
+          holds = holds-at g X 0 n (tableOf k (upto a i)) (p .holds) (p .long);
+          sound = rw at-is (t .doing .sound);
+          most = 5 * i;
+          held = rw at-is (t .doing .held);
+          room = omega (arith, ok .depth, p .inside);
+        }
+
     -- all rules are done
-    module _ (h : m ≤ i) where
-      last : i ≡ m
-      last = omega (arith, p .inside)
-
-      pub ready : Ready g X 0 n
-      ready =
-          let t = good-upto i (p .inside) in
-          record {
-            sized = sized-now;
-            inside = omega (arith, p .few, ok .rows);
-            holds = holds-at g X 0 n (tableOf k (upto a i)) (p .holds) (p .long);
-            sound = rw at-is (t .doing .sound);
-            most = 5 * i;
-            held = rw at-is (t .doing .held);
-            room = omega (arith, ok .depth, p .inside);
-          }
-
-      pub outcome-is : (room : ℕ) → outcome k ceiling room a m ≡ fitting room (encode k (tableAt g X 0 n))
-      outcome-is room =
-          let e : m - i ≡ 0 = omega arith in
-          cc (p .goes-on, e, at-is)
+    pub outcome-is : m ≤ i → (room : ℕ) → outcome k ceiling room a m ≡ fitting room (encode k (tableAt g X 0 n))
+    outcome-is h room =
+        let last : i ≡ m = omega (arith, p .inside) in
+        let e : m - i ≡ 0 = omega arith in
+        cc (p .goes-on, e, at-is)

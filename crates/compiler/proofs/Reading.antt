@@ -1,4 +1,4 @@
--- From the book's bytes to the rules, and the work slice behind them.
+-- From the book's bytes to the rules, and the work slice after them.
 use Prim.Native.Nat.{ℕ, zero, suc, _+_, _-_, _*_, _≤_, _<_}
 use native.Mathlib.Omega.{arith}
 use native.Mathlib.Decide.{decLt}
@@ -68,7 +68,7 @@ compilable k ceiling m a W ok room =
       valid = ok .valid;
     }
 
--- ---- the entries behind the rows
+-- ---- the entries after the rows
 
 record Split (d i : ℕ) : Type 0 where
   quotient : ℕ

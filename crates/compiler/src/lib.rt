@@ -112,7 +112,7 @@ fn compile_rules(
     finish(work, g, n, out)
 }
 
-// The first m rules of the arrays over k tags: the table's bytes, 9, 10 or 11. The work slice is zero again behind it.
+// The first m rules of the arrays over k tags: the table's bytes, 9, 10 or 11. The work slice is zero again after it.
 fn compile_read(
     work: &mut [u16],
     ceiling: usize,

@@ -11,7 +11,7 @@ use Rattle.workspace.specs.declared.Grid.{Grid}
 use Rattle.workspace.specs.Cells.{at, word, Sized, Inner, Written}
 use Rattle.workspace.specs.Holds.{Holds, tableAt, standing}
 
--- from its state q over the word at (r, c, s), to the cell (r2, c2), where there is room behind so many entries
+-- from its state q over the word at (r, c, s), to the cell (r2, c2), where there is room after so many entries
 pub record Runs (g : Grid) (W : List ℕ) (base m q r c s r2 c2 behind : ℕ) : Type 0 where
   pub sized : Sized g W
   pub holds : Holds g W base (tableAt g W base m)

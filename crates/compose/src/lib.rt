@@ -16,7 +16,7 @@ ghost use Rattle.compose.specs.Runs.{Runs, Ran};
 ghost use Rattle.compose.specs.Pairs.{Pairs, Room, Entered, Step-paired, Steps-paired, Row-paired};
 ghost use Rattle.compose.specs.Composed.{Composable, Composed};
 
-// The transducer in m rows from `base` runs from its state q over the word at (r, c, s); what it puts out goes behind the word at
+// The transducer in m rows from `base` runs from its state q over the word at (r, c, s); what it puts out goes after the word at
 // (r2, c2, s2).
 fn run_word(
     work: &mut [u16],

@@ -1,4 +1,4 @@
--- Bytes that are written one behind the other.
+-- Bytes that are written one after the other.
 use Prim.Native.Nat.{ℕ, zero, suc, _+_, _*_, _-_, _/_, _%_, _≤_, _<_}
 use native.Mathlib.Omega.{arith}
 use native.Mathlib.Numerals.{add-one, add-two, add-three}
@@ -22,7 +22,7 @@ sets-more l i (x ∷ xs) ys =
     let e : suc i + length xs ≡ i + suc (length xs) = omega arith in
     sets-more (set l i x) (suc i) xs ys ∙ ap (λ (n : ℕ). sets (sets (set l i x) (suc i) xs) n ys) e
 
--- what is written behind what was written
+-- what is written after what was written
 pub wrote-then : (l m o : List ℕ) (i j k : ℕ) (xs ys : List ℕ) → Wrote l m i xs j → Wrote m o j ys k → Wrote l o i (xs ++ ys) k
 wrote-then l m o i j k xs ys a b =
     record {
@@ -69,7 +69,7 @@ tag-got g W r c s i tag b h v =
     let e : tag ≡ getD (word g W r c s) i 0 = v .is ∙ sym (word-at g W r c s i h) in
     (e, omega (arith, below-at 0x100 (word g W r c s) i (omega (arith, word-length g W r c s)) (b .small)))
 
--- ---- parts one behind the other
+-- ---- parts one after the other
 
 module _ {A : Type 0} (bytes : A → List ℕ) (f : ℕ → A) where
   tabulate-next : (i j : ℕ) → tabulate (suc i) j f ≡ tabulate i j f ++ (f (j + i) ∷ [])
@@ -153,7 +153,7 @@ table-long g W base n m e = omega (arith, length-append (joined rowBytes (rowsIn
 pub inner-in : (g : Grid) (W : List ℕ) (r c s : ℕ) → Inner g W r c s → In g r c s
 inner-in g W r c s h = record { row = h .row; cell = h .cell; entry = omega (arith, h .inside) }
 
--- four bytes, a part behind them, and 00
+-- four bytes, a part after them, and 00
 pub wrote-head : (l o : List ℕ) (w x y z : ℕ) (rest : List ℕ) (to : ℕ) → Wrote (set (set (set (set l 0 w) 1 x) 2 y) 3 z) o 4 rest to
     → Wrote l (set o to 0) 0 (w ∷ x ∷ y ∷ z ∷ (rest ++ (0 ∷ []))) (to + 1)
 wrote-head l o w x y z rest to h =

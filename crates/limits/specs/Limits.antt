@@ -1,5 +1,6 @@
 -- Document 01, "Bounds": "K 2 to 48; at most 16 rules; sentence at most 65,535 tags; ceiling N of states 1 to 256", "1 to 6 tags" in a
--- pattern, "at most 80" held tags. src/lib.rt has the same numbers for code; no other file has them.
+-- pattern, "at most 80" held tags. src/lib.rt has the bounds for code. The work slice's numbers stand again where
+-- code lays out its rows, in compiler and addition.
 use Prim.Native.Nat.{ℕ, _+_, _*_}
 
 abbrev pub fewest-tags : ℕ

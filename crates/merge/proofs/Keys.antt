@@ -33,7 +33,7 @@ module _ (g : Grid) (W : List ℕ) (base n : ℕ) where
   key-trans true p q r k l = words-trans p q r k l
   key-trans false p q r k l = λ a ha. k a ha ∙ l a ha
 
--- notes in the entries from lo to hi, behind the class, leave keys
+-- notes in the entries from lo to hi, after the class, leave keys
 module _ (g : Grid) (W : List ℕ) (base n : ℕ) (ok : Ready g W base n) (X : List ℕ) (lo hi : ℕ) (from : 1 < lo) (to : hi ≤ 7) (kept : Kept g W X (Spare g base (base + n) lo hi)) where
   pub class-same : (q : ℕ) → classOf g X base q ≡ classOf g W base q
   class-same q = kept .same (base + q) (g .tags) 1 (omega arith) (omega (arith, ok .room)) (λ i. omega (arith, i .3, from))

@@ -272,7 +272,7 @@ module _ (g : Grid) (W : List ℕ) (base n : ℕ) (first : Bool) (q : ℕ) (hq :
         back : (o i : ℕ) → classOf g Y base o ≡ classOf g Y base i → classOf g W base o ≡ classOf g W base i
         back = class-back g W base n first q hq s Y wider news
 
-        -- the gap behind the last name
+        -- the gap after the last name
         last-gap : Gap g W base (w .at) q
         last-gap = go (s .links (w .at) (f .below) (f .name))
           where

@@ -2,3 +2,4 @@
 pub mod OneRule
 pub mod TableOf
 pub mod Theorems
+pub mod Examples

@@ -155,7 +155,7 @@ module _ (l k : ℕ) (r : Rule) (ok : ValidRule l k r) where
   puts-end [] = held-end
   puts-end (a ∷ x) = ap₂ (λ (o w : List ℕ). o ++ w) (says-end a) (ap (λ (s : ℕ). puts (oneRule r) s x) (goes-end a) ∙ puts-end x)
 
-  -- what is put out at a step that does not complete u, behind what was put out before
+  -- what is put out at a step that does not complete u, after what was put out before
   passed : (j a : ℕ) → j < n → (goes r j a ≡ n → ⊥)
       → take p (take j u) ++ says r j a ≡ skipped u (take j u ++ (a ∷ [])) ++ take p (take (goes r j a) u)
   unfolding u n
@@ -354,7 +354,7 @@ module _ (l k : ℕ) (r : Rule) (ok : ValidRule l k r) where
           ∙ ap suc (getD-set-same (r .pattern) (r .place) (r .tag) 0 (ok .place-inside)) in
           ok .tag-new (omega arith)
 
-  -- 002, proposition 5: two states are told apart by nothing more, by the rest of u behind the one, or by that behind the other
+  -- 002, proposition 5: two states are told apart by nothing more, by the rest of u after the one, or by that after the other
   told : (i j : ℕ) → i < j → (j < n) ⊎ (j ≡ n) → Dec (p < i) → Dec (p < j) → Same k (puts (oneRule r) i) (puts (oneRule r) j) → ⊥
   unfolding u n
   told i j lt (inl h) d (yes b) same = omega (arith, ap length (same [] tt), held-length i (omega arith), held-length j h)

@@ -1,4 +1,5 @@
-// The door for hosts in C: compile and both runs, each answering one number. include/nedzsuka.h tells a host what they promise.
+// The functions for C (document 01, "host door"): compile and both runs, each answering one number. include/nedzsuka.h tells a host what
+// they promise.
 use answers::Refusal;
 use answers::RunAnswer;
 use compiler::CompileAnswer;

@@ -81,7 +81,7 @@ module _ (g : Grid) (U : List ℕ) (base n : ℕ) (ok : Fronted g U base n)
             );
       }
 
-  -- the final words can be stripped behind the steps
+  -- the final words can be stripped after the steps
   module _ (Y : List ℕ) (s : Steps-stripped g U Y base n) where
     last : (q e : ℕ) → e < g .depth → at g Y (base + q) (g .tags) e ≡ at g U (base + q) (g .tags) e
     last q e he = s .kept .same (base + q) (g .tags) e (omega arith) he (λ i. omega (arith, i .2))

@@ -22,7 +22,7 @@ pub record Fronted (g : Grid) (W : List ℕ) (base n : ℕ) : Type 0 where
   pub ready : Ready g W base n
   pub fronts : (q : ℕ) → q < n → size g W base q ≤ length (standing g W base n .final q)
 
--- the front of q is put out by the step on a and the front behind it
+-- the front of q is put out by the step on a and the front after it
 abbrev pub Rests : Grid → List ℕ → ℕ → ℕ → ℕ → ℕ → Type 0
 Rests g W base n q a = Prefix (frontAt g W base n q) (standing g W base n .output q a ++ frontAt g W base n (standing g W base n .next q a))
 

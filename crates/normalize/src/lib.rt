@@ -19,7 +19,7 @@ ghost use Rattle.workspace.specs.Holds.{Ready, standing};
 ghost use Rattle.normalize.specs.Fronts.{size, frontAt, Fronted, Rests, Turn, Either, Settled, Started};
 ghost use Rattle.normalize.specs.Strip.{strippedAt, Strip, Row-stripped, Steps-stripped, Finals-stripped, Normalized};
 
-// What the front of q and the step on a, with the front behind it, have in common.
+// What the front of q and the step on a, with the front after it, have in common.
 fn meeting(work: &[u16], g: Grid, base: usize, n: usize, q: usize, a: usize) -> usize
     requires { ⌜ Fronted g (now work) base n ⌝ }
     requires { ⌜ (q < n) × (a < g .tags) ⌝ }

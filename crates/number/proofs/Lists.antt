@@ -13,7 +13,7 @@ use Rattle.transducers.specs.Table.{Step, Table, no-step, row}
 use Rattle.transducers.specs.Number.{place, note, noteAll, visit}
 use Rattle.number.specs.Order.{mark}
 
--- a marked state is in the list, and is not put behind it again
+-- a marked state is in the list, and is not appended again
 pub note-old : (l : List ℕ) (s : ℕ) → (mark l s ≡ 0 → ⊥) → note l s ≡ l
 note-old l s = go (ltb (place l s) (length l))
   where

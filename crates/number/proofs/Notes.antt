@@ -113,7 +113,7 @@ module _ (g : Grid) (base n : ℕ) where
     pub order-low : (i : ℕ) → i < length (order (mergedAt g W base n)) → getD (order (mergedAt g W base n)) i 0 < n
     order-low i h = omega (arith, order-below (g .tags) (mergedAt g W base n) (merged-doing .rows) (merged-doing .sound) i h, merged-length)
 
-  -- a state is put behind the list
+  -- a state is appended to the list
   module _ (W : List ℕ) (len s : ℕ) (ok : Lists-room g W base n len (note (listed g W base len) s)) (h : s < n) where
     pub add-old : (seen : ℕ) → Got g W (base + s) (g .tags) 5 seen → (seen ≡ 0 → ⊥) → Lists g W W base n (note (listed g W base len) s) len
     add-old seen got some =
@@ -261,7 +261,7 @@ module _ (g : Grid) (base n : ℕ) where
           ∙ c .zero x hx
           ∙ sym (mark-start x other)
 
-  -- the search: the members before the i-th have had their next states put behind the list
+  -- the search: the members before the i-th have had their next states appended to the list
   pub record Searching (W X : List ℕ) (i len : ℕ) : Type 0 where
     pub kept : Kept g W X (Spare g base (base + n) 4 6)
     pub marked : Marked g X base n (listed g X base len)

@@ -77,7 +77,7 @@ module _ (g : Grid) (base n : ℕ) where
               omega (arith, ap length (merged-final q hq), ok .holds .roomy .finals q (in-table q hq));
         }
 
-  -- the rows of the states are behind those that are written
+  -- the rows of the states are after those that are written
   module _ (W X : List ℕ) (to count : ℕ) (ok : Ordered g W base n count) (before : to + count ≤ base) (kept : Kept g W X (In-rows to (to + count))) where
     still : (q c e : ℕ) → c < g .tags + 1 → e < g .depth → at g X (base + q) c e ≡ at g W (base + q) c e
     still q c e hc he = kept .same (base + q) c e hc he (λ i. omega (arith, i .1))

@@ -17,7 +17,7 @@ ghost use Rattle.workspace.specs.Holds.{Stepped, Stepping, Rowed, Filling};
 ghost use Rattle.number.specs.Order.{Classed, mergedAt, listed, Lists, Lists-room};
 ghost use Rattle.number.specs.Numbering.{Ordered, numberedAt, Rowing, Numbered};
 
-// s is put behind the list of so many states if it is not there.
+// s is appended to the list of so many states if it is not there.
 fn add(work: &mut [u16], g: Grid, base: usize, n: usize, len: usize, s: usize) -> usize
     requires { ⌜ Lists-room g (now work) base n len (note (listed g (now work) base len) s) ⌝ }
     requires { ⌜ s < n ⌝ }
@@ -42,7 +42,7 @@ fn next_class(work: &[u16], g: Grid, base: usize, n: usize, q: usize, a: usize) 
     get(work, g, base + next, g.tags, 1)
 }
 
-// The next states of q are put behind the list.
+// The next states of q are appended to the list.
 fn add_steps(work: &mut [u16], g: Grid, base: usize, n: usize, len: usize, q: usize) -> usize
     requires { ⌜ Lists-room g (now work) base n len (noteAll (row (mergedAt g (now work) base n) q .steps) (listed g (now work) base len)) ⌝ }
     requires { ⌜ q < n ⌝ }

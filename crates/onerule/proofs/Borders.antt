@@ -27,7 +27,7 @@ module _ (t u : List ℕ) (i j : ℕ) (hi : i < length t) (hj : j < length u) wh
   prefix-other : (getD t i 0 ≡ getD u j 0 → ⊥) → prefix (drop i t) (drop j u) ≡ false
   prefix-other e = rw (drop-cons t i 0 hi, drop-cons u j 0 hj) (other-tag (getD t i 0) (getD u j 0) (drop (suc i) t) (drop (suc j) u) e)
 
--- the first j tags of u, and a behind them
+-- the first j tags of u, and a after them
 abbrev pub matched : List ℕ → ℕ → ℕ → List ℕ
 matched u j a = take j u ++ (a ∷ [])
 

@@ -18,7 +18,7 @@ ghost use Rattle.workspace.specs.Cells.{at, word, Sized, Kept, In-rows, Written
 ghost use Rattle.workspace.specs.Holds.{Stepped, Stepping, Rowed, Holds};
 ghost use Rattle.onerule.specs.Rule.{rule, Room};
 
-// Whether the tags of the pattern u from s to j, and a behind them, are the first ones of u.
+// Whether the tags of the pattern u from s to j, and a after them, are the first ones of u.
 fn overlaps(u: &[u8], j: usize, a: usize, s: usize) -> bool
     requires { ⌜ (s ≤ j) × (j < length (now u)) ⌝ }
     ensures { λ r. ⌜ r ≡ prefix (drop s (take j (now (u .entry)) ++ (a ∷ []))) (now (u .entry)) ⌝ }
@@ -33,7 +33,7 @@ fn overlaps(u: &[u8], j: usize, a: usize, s: usize) -> bool
     wide(u[i]) == a
 }
 
-// The length of the longest border: of the first j tags of u, and a behind them, with u.
+// The length of the longest border: of the first j tags of u, and a after them, with u.
 fn border(u: &[u8], j: usize, a: usize) -> usize
     requires { ⌜ j < length (now u) ⌝ }
     ensures { λ r. ⌜ r ≡ overlap (now (u .entry)) (take j (now (u .entry)) ++ (a ∷ [])) ⌝ }
@@ -58,7 +58,7 @@ fn next_of(u: &[u8], j: usize, a: usize, place: usize, tag: u8) -> usize
     border(u, j, a)
 }
 
-// The tags of u from one place up to another, behind the word at s.
+// The tags of u from one place up to another, after the word at s.
 fn push_part(
     work: &mut [u16],
     g: Grid,

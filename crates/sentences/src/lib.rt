@@ -59,7 +59,7 @@ pub fn copy(sentence: &[u8], out: &mut [u8])
     }
 }
 
-// The number of places from one place up to another, not far behind, at which two words differ. A sum of bytes can be taken of many
+// The number of places from one place up to another, not far after it, at which two words differ. A sum of bytes can be taken of many
 // places at once.
 fn count_near(a: &[u8], b: &[u8], from: usize, to: usize) -> usize
     requires { ⌜ length (now a) ≡ length (now b) ⌝ }

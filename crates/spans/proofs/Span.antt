@@ -44,7 +44,7 @@ pub last-same : (w : List ℕ) → last w w ≡ 0
 last-same [] = refl
 last-same (a ∷ w) = cc (last-same w, eq-eqb a a refl)
 
--- the last differing place: they differ there, and nowhere behind it; the first one is not behind it
+-- the last differing place: they differ there, and nowhere after it; the first one is not after it
 pub record Ends (v w : List ℕ) (n : ℕ) : Type 0 where
   pub inside : n < length w
   pub differs : Differ v w n

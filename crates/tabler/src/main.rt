@@ -50,7 +50,7 @@ fn put_bytes(bytes: &[u8]) {
     put(b"\n");
 }
 
-// The S of a table's bytes stands behind 30 and K.
+// The S of a table's bytes stands after 30 and K.
 fn put_table(bytes: &[u8]) {
     if bytes.len() < 4 {
         return;

@@ -79,7 +79,7 @@ module _ (k s : ℕ) (bs ix : List ℕ) (t : Table) (states : length t ≡ s) (g
       (every-at (RowBalanced t) t no-row q (rows-balanced t t e) (omega arith))
       (omega (arith, row-good q h .whole)))
 
--- the states were read behind the head; what is left are the last byte and the held tags
+-- the states were read after the head; what is left are the last byte and the held tags
 module _
     (k s : ℕ) (bs ix : List ℕ) (end : ℕ)
     (head : Head bs k s)

@@ -59,7 +59,7 @@ pub record ReadAs {A : Type 0} (Good : A → Type 0) (bytes : A → List ℕ) (b
   pub begins : Begins (bytes v) bs
   pub good : Good v
 
--- n parts, one behind the other
+-- n parts, one after the other
 module _ {A : Type 0} (read : List ℕ → Outcome A) (bytes : A → List ℕ) where
   pub many-read :
       (Good : A → Type 0)
@@ -92,7 +92,7 @@ module _ {A : Type 0} (read : List ℕ → Outcome A) (bytes : A → List ℕ) w
       → many read bytes (suc n) bs ≡ result (v ∷ vs)
   many-at n bs v vs e f = rw e (rw f refl)
 
-  -- `Stop` is what has to stand behind a part
+  -- `Stop` is what has to stand after a part
   pub many-encoded :
       (Good : A → Type 0) (Stop : List ℕ → Type 0)
       → ((v : A) (rest : List ℕ) → Good v → Stop rest → read (bytes v ++ rest) ≡ result v)

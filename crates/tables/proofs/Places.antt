@@ -235,7 +235,7 @@ kept-then lo lo' x y z h f g i l = g i (omega arith) ∙ f i l
 pub kept-at : (P : ℕ → Type 0) (lo c : ℕ) (x y : List ℕ) → Kept lo x y → c < lo → P (getD x c 0) → P (getD y c 0)
 kept-at P lo c x y f h g = rw (f c h) g
 
--- the entries of the states, one behind the other
+-- the entries of the states, one after the other
 pub row-next : (q k : ℕ) → (q + 1) * (k + 1) ≡ q * (k + 1) + (k + 1)
 row-next q k = rw (add-one q) (suc-mul q (k + 1))
 

@@ -1,4 +1,4 @@
--- Parts that are read one behind the other: how far a loop has come.
+-- Parts that are read one after the other: how far a loop has come.
 use Prim.Native.Nat.{ℕ, zero, suc, _+_, _*_, _<_, _≤_, _-_}
 use native.Mathlib.Nat.{zero-add}
 use native.Mathlib.Decide.{decLt}

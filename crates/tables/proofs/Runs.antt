@@ -1,4 +1,4 @@
--- The run of a table: words put out one behind the other.
+-- The run of a table: words put out one after the other.
 use Prim.Native.Nat.{ℕ, zero, suc, _+_, _*_, _<_, _≤_, _-_, min}
 use native.Mathlib.Numerals.{add-one}
 use native.Mathlib.Nat.{add-zero, zero-add, zero-mul}

@@ -20,7 +20,7 @@ Begins p bs = bs ≡ p ++ drop (length p) bs
 pub begins-join : (p q bs : List ℕ) → Begins p bs → Begins q (drop (length p) bs) → bs ≡ (p ++ q) ++ drop (length q) (drop (length p) bs)
 begins-join p q bs e f = rw append-assoc (e ∙ ap (λ (z : List ℕ). p ++ z) f)
 
--- what stands behind p, given all of the bytes
+-- what stands after p, given all of the bytes
 pub begins-of : (p bs rest : List ℕ) → bs ≡ p ++ rest → drop (length p) bs ≡ rest
 begins-of p bs rest e = rw e (drop-append-seam p rest)
 

@@ -18,7 +18,7 @@ abbrev pub tagged : ℕ → List ℕ → List ℕ
 tagged c [] = []
 tagged c (a ∷ w) = c ∷ a ∷ tagged c w
 
--- the bytes of each, one behind the other
+-- the bytes of each, one after the other
 abbrev pub joined : {A : Type 0} → (A → List ℕ) → List A → List ℕ
 joined bytes [] = []
 joined bytes (x ∷ xs) = bytes x ++ joined bytes xs

@@ -39,7 +39,7 @@ readStep k s (c ∷ h ∷ l ∷ bs) =
     provided (eqb c 0x33)
     (provided (ltb (number h l) s) (result (record { next = number h l; output = word 0x34 k bs })))
 
--- n parts, one behind the other; `bytes` are a part's
+-- n parts, one after the other; `bytes` are a part's
 abbrev pub many : {A : Type 0} → (List ℕ → Outcome A) → (A → List ℕ) → ℕ → List ℕ → Outcome (List A)
 many read bytes zero bs = result []
 many read bytes (suc n) bs =
@@ -73,7 +73,7 @@ rowsBalanced t [] = true
 rowsBalanced t (r ∷ rs) =
     elim (stepsBalanced t (length (r .final)) (r .steps)) [ false ↦ false | true ↦ rowsBalanced t rs ]
 
--- the states behind the head, the end, and what the states' held tags ask
+-- the states after the head, the end, and what the states' held tags ask
 abbrev pub readTable : ℕ → ℕ → List ℕ → Outcome Decoded
 readTable k s bs =
     andThen (many (readRow k s) rowBytes s bs)

@@ -49,7 +49,7 @@ pub record Cell (bs : List ℕ) (base : ℕ) (w : List ℕ) (e : ℕ) : Type 0 w
   pub tag-is : length w ≡ 1 → tagOf e ≡ getD w 0 0
   pub stands : (length w ≡ 1 → ⊥) → Stands bs (placeOf e) w
 
--- the entry of a step: the next state's steps begin behind its final word
+-- the entry of a step: the next state's steps begin after its final word
 abbrev pub StepCell : ℕ → List ℕ → List ℕ → ℕ → Step → Type 0
 StepCell k bs ix c v = Cell bs (v .next * (k + 1) + 1) (v .output) (getD ix c 0)
 
@@ -92,7 +92,7 @@ abbrev pub Decides : Bool → Type 0 → Type 0
 Decides true P = P
 Decides false P = P → ⊥
 
--- the head was read: what is left is the table behind it
+-- the head was read: what is left is the table after it
 pub record Head (bs : List ℕ) (k s : ℕ) : Type 0 where
   pub left : decode bs ≡ readTable k s (drop 4 bs)
   pub inside : 4 ≤ length bs
@@ -128,7 +128,7 @@ abbrev pub SizeIf : Bool → List ℕ → ℕ → ℕ → Type 0
 SizeIf true bs k s = sizeOf bs ≡ result (record { tags = k; states = s })
 SizeIf false bs k s = decode bs ≡ malformed
 
--- a word was put to the output from one place to another; what lies behind both is kept
+-- a word was put to the output from one place to another; what lies after both is kept
 pub record Put (out out' : List ℕ) (at : ℕ) (w : List ℕ) (to : ℕ) : Type 0 where
   pub end : to ≡ at + length w
   pub front : take to out' ≡ take at out ++ w

@@ -117,7 +117,7 @@ fn read_any_step(
     Reached::To(end)
 }
 
-// Whether a step that puts out one tag stands there, with a byte behind it.
+// Whether a step that puts out one tag stands there, with a byte after it.
 fn is_single(table: &[u8], at: usize, k: usize, s: usize) -> bool
     requires { ⌜ at ≤ length (now table) ⌝ }
     ensures { λ r. ⌜ SingleIf r (now (table .entry)) at k s ⌝ }
@@ -207,7 +207,7 @@ fn read_row(table: &[u8], at: usize, k: usize, s: usize, index: &mut [u64], cell
     read_steps(table, end, k, s, index, cell + 1)
 }
 
-// The s states behind the head.
+// The s states after the head.
 fn read_rows(table: &[u8], k: usize, s: usize, index: &mut [u64]) -> Reached
     requires { ⌜ Asked (now table) 4 k s × (s * (k + 1) ≤ length (now index)) ⌝ }
     ensures { λ r. ⌜ PartRead (many (readRow k s) rowBytes s) (joined rowBytes) (TableCells k s (now (table .entry)) (now (index .exit))) (now (table .entry)) 4 r ⌝ }
@@ -314,7 +314,7 @@ fn load_end(table: &[u8], end: usize, k: usize, s: usize, index: &[u64]) -> bool
     level_rows(index, k, s)
 }
 
-// Reads the bytes behind the head and fills the index.
+// Reads the bytes after the head and fills the index.
 fn load(table: &[u8], k: usize, s: usize, index: &mut [u64]) -> bool
     requires { ⌜ Head (now table) k s × (s * (k + 1) ≤ length (now index)) ⌝ }
     ensures { λ r. ⌜ LoadedIf r (now (table .entry)) k s (now (index .exit)) ⌝ }

@@ -30,7 +30,7 @@ begins-puts k S F c inside q hq (a ∷ x) hx =
 pub above-finals : (k : ℕ) (S : Shape) → Above k S (S .final)
 above-finals k S q hq z all = all [] tt
 
--- what begins all that q still puts out begins the output of each step with the front behind it
+-- what begins all that q still puts out begins the output of each step with the front after it
 pub above-step : (k : ℕ) (S : Shape) (F : ℕ → List ℕ) → Above k S F → Inside k S
     → (q a : ℕ) → q < S .count → a < k → (z : List ℕ) → ((x : List ℕ) → Below k x → Prefix z (puts S q x)) → Prefix z (S .output q a ++ F (S .next q a))
 above-step k S F above inside q a hq ha z all = go (begins-either (S .output q a) z (S .final (S .next q a)) (all (a ∷ []) (ha, tt)))

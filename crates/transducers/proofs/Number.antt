@@ -23,7 +23,7 @@ use Rattle.transducers.proofs.Lower.{pigeonhole}
 use Rattle.transducers.proofs.Find.{find-hit, find-first}
 use Rattle.transducers.proofs.Tabulate.{canonical-table, doing-table}
 
--- the list grows behind its members, which keep their places
+-- the list grows at its end, and its members keep their places
 pub note-length : (l : List ℕ) (s : ℕ) → length l ≤ length (note l s)
 note-length l s = go (ltb (place l s) (length l))
   where

@@ -15,7 +15,7 @@ use Rattle.transducers.specs.Tabulate.{table}
 abbrev pub place : List ℕ → ℕ → ℕ
 place l s = find (eqb s) l
 
--- s is put behind the list if it is not there
+-- s is appended to the list if it is not there
 abbrev pub note : List ℕ → ℕ → List ℕ
 note l s = elim (ltb (place l s) (length l)) [ true ↦ l | false ↦ l ++ (s ∷ []) ]
 
@@ -24,7 +24,7 @@ abbrev pub noteAll : List Step → List ℕ → List ℕ
 noteAll [] l = l
 noteAll (s ∷ ss) l = noteAll ss (note l (s .next))
 
--- "lower-numbered states first": the next states of the i-th member, then those of the ones behind it
+-- "lower-numbered states first": the next states of the i-th member, then those of the ones after it
 abbrev pub visit : ℕ → Table → ℕ → List ℕ → List ℕ
 visit zero t i l = l
 visit (suc n) t i l = elim (ltb i (length l)) [ true ↦ visit n t (suc i) (noteAll (row t (getD l i 0) .steps) l) | false ↦ l ]

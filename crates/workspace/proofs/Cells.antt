@@ -247,7 +247,7 @@ module _ (g : Grid) (W w : List ℕ) (from to r c s : ℕ) (room : to ≤ length
           ∙ ap (λ (l : List ℕ). word g X r c s ++ l) (sym (drop-of-length-le (take to w) {i = i} (omega (arith, length-take-le to w room))))
           ∙ a .is
 
--- one word behind another
+-- one word after another
 module _ (g : Grid) (W X : List ℕ) (r c s : ℕ) where
   pub more-size : (v : List ℕ) → Written g W X r c s (word g W r c s ++ v) → at g X r c s ≡ at g W r c s + length v
   more-size v a = omega (arith, a .size, length-append (word g W r c s) v, word-length g W r c s)

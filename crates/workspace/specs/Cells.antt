@@ -18,7 +18,7 @@ at g W r c e = getD W (ix g r c e) 0
 unfoldable pub write : Grid → List ℕ → ℕ → ℕ → ℕ → ℕ → List ℕ
 write g W r c e v = set W (ix g r c e) v
 
--- a word in a cell: its length at entry s, its tags behind
+-- a word in a cell: its length at entry s, its tags after
 unfoldable pub word : Grid → List ℕ → ℕ → ℕ → ℕ → List ℕ
 word g W r c s = tabulate (at g W r c s) (suc s) (at g W r c)
 

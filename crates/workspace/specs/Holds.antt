@@ -1,5 +1,5 @@
 -- Rows of the work slice that hold a table: a row is a state. Its cell a < K is the step on the tag a: entry 0 the next state, entry 1
--- the number of tags put out, the tags behind. Its last cell has the final word, entry 7 its length, and before that what the phases
+-- the number of tags put out, the tags after. Its last cell has the final word, entry 7 its length, and before that what the phases
 -- note of the state.
 use Prim.Native.Nat.{ℕ, _+_, _≤_, _<_}
 use mathlib.Core.Path.{_≡_}

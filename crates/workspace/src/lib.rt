@@ -69,7 +69,7 @@ pub fn clear(work: &mut [u16], g: Grid, r: usize, c: usize, s: usize)
     put(work, g, r, c, s, 0);
 }
 
-// A tag behind the word at s.
+// A tag after the word at s.
 pub fn push(work: &mut [u16], g: Grid, r: usize, c: usize, s: usize, tag: usize)
     requires { ⌜ Sized g (now work) ⌝ }
     requires { ⌜ In g r c (s + at g (now work) r c s + 1) ⌝ }
@@ -81,7 +81,7 @@ pub fn push(work: &mut [u16], g: Grid, r: usize, c: usize, s: usize, tag: usize)
     put(work, g, r, c, s, n + 1);
 }
 
-// The tags of one word from a place up to another, behind another cell's word.
+// The tags of one word from a place up to another, after another cell's word.
 pub fn append(
     work: &mut [u16],
     g: Grid,
@@ -128,7 +128,7 @@ pub fn drop_front(work: &mut [u16], g: Grid, r: usize, c: usize, s: usize, n: us
     put(work, g, r, c, s, len - n);
 }
 
-// A whole word behind another cell's.
+// A whole word after another cell's.
 pub fn append_word(
     work: &mut [u16],
     g: Grid,

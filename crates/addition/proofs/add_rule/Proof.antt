@@ -1,4 +1,4 @@
--- `addition::add_rule` meets its contract: the laws of the phases, one behind the other.
+-- `addition::add_rule` meets its contract: the laws of the phases, one after the other.
 use native.Mathlib.Omega.{arith}
 use borrow.Author.Needs.{needs}
 use Rattle.onerule.specs.Rule.{rule}
@@ -17,26 +17,21 @@ use Rattle.onerule.proofs.write_rule.Reads as write-rule-reads
 abbrev the-rule : tie.Start → Rule
 the-rule st = rule (st .args .u .now) (st .args .place) (st .args .tag)
 
--- src/lib.rt:22:18
 mul-second : tie.Need-mul-second
 mul-second c = search needs
 
--- src/lib.rt:23:13
 add-m : tie.Need-add-m
 add-m c = search needs
 
--- src/lib.rt:24:5
 write-rule-requires : tie.Need-write-rule-requires
 write-rule-requires c κs = search needs
 
--- src/lib.rt:25:9
 compose-requires : tie.Need-compose-requires
 compose-requires c κs =
     let st = c .before .before .before .before .before .before .before in
     let w = c .before .before .before .write-rule in
     composable (st .args .g) (st .args .work .now) (st .args .n) (st .args .ceiling) (the-rule st) (st .pre) _ (w .ensures .0) (w .ensures .1)
 
--- src/lib.rt:27:5
 merge-requires : tie.Need-merge-requires
 merge-requires c κs =
     let st = c .before .before .before .before .before .before .before .before .before .before .before .before .before .before .before in
@@ -45,7 +40,6 @@ merge-requires c κs =
     let e = c .before .before .before .normalize in
     (ready-normalized (st .args .g) (st .args .work .now) (st .args .n) (st .args .ceiling) (the-rule st) (st .pre) _ (w .ensures .0) (w .ensures .1) _ _ (d .ensures .0) (d .ensures .1) _ (e .ensures), early-normalized (st .args .g) (st .args .work .now) (st .args .n) (st .args .ceiling) (the-rule st) (st .pre) _ (w .ensures .0) (w .ensures .1) _ _ (d .ensures .0) (d .ensures .1) _ (e .ensures))
 
--- src/lib.rt:26:5
 normalize-requires : tie.Need-normalize-requires
 normalize-requires c κs =
     let st = c .before .before .before .before .before .before .before .before .before .before .before in
@@ -53,7 +47,6 @@ normalize-requires c κs =
     let d = c .before .before .before .compose in
     ready-composed (st .args .g) (st .args .work .now) (st .args .n) (st .args .ceiling) (the-rule st) (st .pre) _ (w .ensures .0) (w .ensures .1) _ _ (d .ensures .0) (d .ensures .1)
 
--- src/lib.rt:28:5
 number-requires : tie.Need-number-requires
 number-requires c κs =
     let st = c .before .before .before .before .before .before .before .before .before .before .before .before .before .before .before .before .before .before .before in
@@ -63,11 +56,9 @@ number-requires c κs =
     let m = c .before .before .before .merge in
     (is-classed (st .args .g) (st .args .work .now) (st .args .n) (st .args .ceiling) (the-rule st) (st .pre) _ (w .ensures .0) (w .ensures .1) _ _ (d .ensures .0) (d .ensures .1) _ (e .ensures) _ (m .ensures), omega arith)
 
--- src/lib.rt:10:1
 same-length : tie.Need-same-length
 same-length c = search needs
 
--- src/lib.rt:10:1
 returns : tie.Need-returns
 returns c =
     let st = c .before .before .before .before .before .before .before .before .before .before .before .before .before .before .before .before .before .before .before .before .before .before in

@@ -22,95 +22,75 @@ arrays st = kept (st .args .rows .now) (st .args .lengths .now) (st .args .place
 abbrev entry : tie.Start → Outcome Cascade
 entry st = readCommands (st .args .s .now) (st .args .k) (st .args .m) (arrays st) (st .args .at)
 
--- src/lib.rt:171:9
 refused-requires : tie.Need-refused-requires
 refused-requires c κs = search needs
 
--- src/lib.rt:171:9
 returns : tie.Need-returns
 returns c =
     let st = c .before .before .before in
     resumes-refused (st .args .s .now) (entry st) (st .args .at + 1 + 1) (arrays st) (st .pre .0) (c .refused .result) 1 (st .args .at) (c .refused .ensures)
     (tag-nowhere (st .args .s .now) (st .args .k) (st .args .m) (arrays st) (st .args .at) (st .pre .1 .1) (st .pre .1 .2) (search needs))
 
--- src/lib.rt:173:16
 sub-last : tie.Need-sub-last
 sub-last c = search needs
 
--- src/lib.rt:174:13
 mul-n : tie.Need-mul-n
 mul-n c = search needs
 
--- src/lib.rt:174:13
 element-copy-out-n : tie.Need-element-copy-out-n
 element-copy-out-n c = search needs
 
--- src/lib.rt:176:9
 refused-requires-2 : tie.Need-refused-requires-2
 refused-requires-2 c κs = search needs
 
--- src/lib.rt:176:9
 returns-2 : tie.Need-returns-2
 returns-2 c =
     let st = c .before .before .before .before .before in
     resumes-refused (st .args .s .now) (entry st) (st .args .at + 1 + 1) (arrays st) (st .pre .0) (c .refused2 .result) 3 (st .args .at) (c .refused2 .ensures)
     (tag-seventh (st .args .s .now) (st .args .k) (st .args .m) (arrays st) (st .args .at) (st .pre .1 .1) (st .pre .1 .2) (st .pre .0) (st .pre .1 .0) (search needs) (omega arith))
 
--- src/lib.rt:178:17
 add-first : tie.Need-add-first
 add-first c = search needs
 
--- src/lib.rt:180:9
 refused-requires-3 : tie.Need-refused-requires-3
 refused-requires-3 c κs = search needs
 
--- src/lib.rt:180:9
 returns-3 : tie.Need-returns-3
 returns-3 c =
     let st = c .before .before .before .before .before .before in
     resumes-refused (st .args .s .now) (entry st) (st .args .at + 1 + 1) (arrays st) (st .pre .0) (c .refused3 .result) 1 (st .args .at + 1) (c .refused3 .ensures)
     (tag-missing (st .args .s .now) (st .args .k) (st .args .m) (arrays st) (st .args .at) (st .pre .1 .1) (st .pre .1 .2) (st .pre .0) (st .pre .1 .0) (search needs) (omega arith) (omega arith))
 
--- src/lib.rt:182:15
 shared-slice-read-tag : tie.Need-shared-slice-read-tag
 shared-slice-read-tag c = search needs
 
--- src/lib.rt:184:9
 refused-requires-4 : tie.Need-refused-requires-4
 refused-requires-4 c κs = search needs
 
--- src/lib.rt:184:9
 returns-4 : tie.Need-returns-4
 returns-4 c =
     let st = c .before .before .before .before .before .before .before .before in
     resumes-refused (st .args .s .now) (entry st) (st .args .at + 1 + 1) (arrays st) (st .pre .0) (c .refused4 .result) 4 (st .args .at + 1) (c .refused4 .ensures)
     (tag-high (st .args .s .now) (st .args .k) (st .args .m) (arrays st) (st .args .at) (st .pre .1 .1) (st .pre .1 .2) (st .pre .0) (st .pre .1 .0) (search needs) (omega arith) (omega arith) (omega arith))
 
--- src/lib.rt:186:5
 mul-rows : tie.Need-mul-rows
 mul-rows c = search needs
 
--- src/lib.rt:186:5
 index-1-rows : tie.Need-index-1-rows
 index-1-rows c = search needs
 
--- src/lib.rt:186:5
 index-2-rows : tie.Need-index-2-rows
 index-2-rows c = search needs
 
--- src/lib.rt:187:21
 add-lengths : tie.Need-add-lengths
 add-lengths c = search needs
 
--- src/lib.rt:187:5
 mul-lengths : tie.Need-mul-lengths
 mul-lengths c = search needs
 
--- src/lib.rt:187:5
 element-write-lengths : tie.Need-element-write-lengths
 element-write-lengths c = search needs
 
--- src/lib.rt:156:1
 returns-5 : tie.Need-returns-5
 returns-5 c =
     let st = c .before .before .before .before .before .before .before in

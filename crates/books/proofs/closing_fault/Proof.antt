@@ -13,67 +13,53 @@ use Rattle.words.proofs.wide.Reads as wide-reads
 abbrev arrays : tie.Start → Kept
 arrays s = kept (s .args .rows .now) (s .args .lengths .now) (s .args .places .now) (s .args .tags .now)
 
--- src/lib.rt:45:9
 returns : tie.Need-returns
 returns c = search needs
 
--- src/lib.rt:47:16
 sub-last : tie.Need-sub-last
 sub-last c = search needs
 
--- src/lib.rt:48:13
 mul-n : tie.Need-mul-n
 mul-n c = search needs
 
--- src/lib.rt:48:13
 element-copy-out-n : tie.Need-element-copy-out-n
 element-copy-out-n c = search needs
 
--- src/lib.rt:50:9
 returns-2 : tie.Need-returns-2
 returns-2 c =
     let s = c .before .before .before in
     closing-empty (arrays s) (s .pre .0) (s .args .m) (s .pre .1) (c .before .before .if1 .left) (c .if2 .taken)
 
--- src/lib.rt:52:18
 element-copy-out-wide : tie.Need-element-copy-out-wide
 element-copy-out-wide c = search needs
 
--- src/lib.rt:52:9
 wide-requires : tie.Need-wide-requires
 wide-requires c κs = search needs
 
--- src/lib.rt:54:9
 returns-3 : tie.Need-returns-3
 returns-3 c =
     let s = c .before .before .before .before .before .before in
     closing-outside (arrays s) (s .pre .0) (s .args .m) (s .pre .1) (search needs) (search needs) (omega arith)
 
--- src/lib.rt:56:8
 mul-if4 : tie.Need-mul-if4
 mul-if4 c = search needs
 
--- src/lib.rt:56:8
 index-1-if4 : tie.Need-index-1-if4
 index-1-if4 c = search needs
 
--- src/lib.rt:56:8
 index-2-if4 : tie.Need-index-2-if4
 index-2-if4 c =
     let s = c .before .before .before .before .before .before in
     omega (arith, s .pre .0 .length-short (s .args .m - 1), c .if3 .left)
 
--- src/lib.rt:56:25
 element-copy-out-if4 : tie.Need-element-copy-out-if4
 element-copy-out-if4 c = search needs
 
--- src/lib.rt:57:9
 returns-4 : tie.Need-returns-4
 returns-4 c =
     let s = c .before .before .before .before .before .before .before .before .before in
     closing-same (arrays s) (s .pre .0) (s .args .m) (s .pre .1) (search needs) (search needs) (omega arith) (cc (c .if4 .taken))
 
--- src/lib.rt:33:1
 returns-5 : tie.Need-returns-5
 returns-5 c =
     let s = c .before .before .before .before .before .before .before .before .before in

@@ -23,37 +23,30 @@ arrays st = kept (st .args .rows .now) (st .args .lengths .now) (st .args .place
 abbrev entry : tie.Start → Outcome Cascade
 entry st = readCommands (st .args .s .now) (st .args .k) (st .args .m) (arrays st) (st .args .at)
 
--- src/lib.rt:101:9
 closing-fault-requires : tie.Need-closing-fault-requires
 closing-fault-requires c κs = search needs
 
--- src/lib.rt:103:9
 refused-requires : tie.Need-refused-requires
 refused-requires c κs = search needs
 
--- src/lib.rt:103:9
 returns : tie.Need-returns
 returns c =
     let st = c .before .before .before .before in
     ap (λ (r : BookAnswer). cascadeOutcome r (arrays st)) (c .refused .ensures)
     ∙ sym (end-fault (st .args .s .now) (st .args .k) (st .args .m) (arrays st) (st .args .at) (st .pre .1 .1) (st .pre .1 .2) (c .before .before .closing-fault .result) (c .before .before .closing-fault .ensures) (search needs))
 
--- src/lib.rt:105:16
 add-next : tie.Need-add-next
 add-next c = search needs
 
--- src/lib.rt:107:9
 refused-requires-2 : tie.Need-refused-requires-2
 refused-requires-2 c κs = search needs
 
--- src/lib.rt:107:9
 returns-2 : tie.Need-returns-2
 returns-2 c =
     let st = c .before .before .before .before .before in
     ap (λ (r : BookAnswer). cascadeOutcome r (arrays st)) (c .refused2 .ensures)
     ∙ sym (end-more (st .args .s .now) (st .args .k) (st .args .m) (arrays st) (st .args .at) (st .pre .1 .1) (st .pre .1 .2) (cc) (omega arith))
 
--- src/lib.rt:87:1
 returns-3 : tie.Need-returns-3
 returns-3 c =
     let st = c .before .before .before .before in

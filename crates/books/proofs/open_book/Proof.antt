@@ -11,73 +11,60 @@ use Rattle.books.proofs.open_book.Reads as reads
 use Rattle.books.proofs.open_book.Lts as lts
 use Rattle.books.proofs.refused.Reads as refused-reads
 
--- src/lib.rt:68:9
 refused-requires : tie.Need-refused-requires
 refused-requires c κs = search needs
 
--- src/lib.rt:68:9
 returns : tie.Need-returns
 returns c a h =
     let st = c .before .before .before in
     resumes-refused (st .args .s .now) (read (st .args .s .now)) 2 a h (c .refused .result) 1 0 (c .refused .ensures)
     (book-empty (st .args .s .now) (omega arith))
 
--- src/lib.rt:70:8
 shared-slice-read-if2 : tie.Need-shared-slice-read-if2
 shared-slice-read-if2 c = search needs
 
--- src/lib.rt:71:9
 refused-requires-2 : tie.Need-refused-requires-2
 refused-requires-2 c κs = search needs
 
--- src/lib.rt:71:9
 returns-2 : tie.Need-returns-2
 returns-2 c a h =
     let st = c .before .before .before .before .before in
     resumes-refused (st .args .s .now) (read (st .args .s .now)) 2 a h (c .refused2 .result) 1 0 (c .refused2 .ensures)
     (book-other (st .args .s .now) (omega arith) (search needs))
 
--- src/lib.rt:74:9
 refused-requires-3 : tie.Need-refused-requires-3
 refused-requires-3 c κs = search needs
 
--- src/lib.rt:74:9
 returns-3 : tie.Need-returns-3
 returns-3 c a h =
     let st = c .before .before .before .before .before .before in
     resumes-refused (st .args .s .now) (read (st .args .s .now)) 2 a h (c .refused3 .result) 1 1 (c .refused3 .ensures)
     (book-no-size (st .args .s .now) (omega arith) (search needs) (omega arith))
 
--- src/lib.rt:76:13
 shared-slice-read-k : tie.Need-shared-slice-read-k
 shared-slice-read-k c = search needs
 
--- src/lib.rt:78:9
 wide-requires : tie.Need-wide-requires
 wide-requires c κs = search needs
 
 refused-requires-4 : tie.Need-refused-requires-4
 refused-requires-4 c κs = search needs
 
--- src/lib.rt:78:9
 returns-4 : tie.Need-returns-4
 returns-4 c a h =
     let st = c .before .before .before .before .before .before .before .before .before in
     resumes-refused (st .args .s .now) (read (st .args .s .now)) 2 a h (c .refused4 .result) 2 1 (c .refused4 .ensures)
     (book-few (st .args .s .now) (omega arith) (search needs) (omega arith) (omega arith))
 
--- src/lib.rt:81:9
 refused-requires-5 : tie.Need-refused-requires-5
 refused-requires-5 c κs = search needs
 
--- src/lib.rt:81:9
 returns-5 : tie.Need-returns-5
 returns-5 c a h =
     let st = c .before .before .before .before .before .before .before .before .before .before in
     resumes-refused (st .args .s .now) (read (st .args .s .now)) 2 a h (c .refused5 .result) 2 1 (c .refused5 .ensures)
     (book-many (st .args .s .now) (omega arith) (search needs) (omega arith) (omega arith) (omega arith))
 
--- src/lib.rt:64:1
 returns-6 : tie.Need-returns-6
 returns-6 c a h =
     let st = c .before .before .before .before .before .before .before .before .before in

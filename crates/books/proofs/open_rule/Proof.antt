@@ -24,102 +24,81 @@ arrays st = kept (st .args .rows .now) (st .args .lengths .now) (st .args .place
 abbrev entry : tie.Start → Outcome Cascade
 entry st = readCommands (st .args .s .now) (st .args .k) (st .args .m) (arrays st) (st .args .at)
 
--- src/lib.rt:127:9
 closing-fault-requires : tie.Need-closing-fault-requires
 closing-fault-requires c κs = search needs
 
--- src/lib.rt:129:9
 refused-requires : tie.Need-refused-requires
 refused-requires c κs = search needs
 
--- src/lib.rt:129:9
 returns : tie.Need-returns
 returns c =
     let st = c .before .before .before .before .before .before .before in
     resumes-refused (st .args .s .now) (entry st) (st .args .at + 1 + 1 + 1) (arrays st) (st .pre .0) (c .refused .result) (c .before .before .closing-fault .result) (st .args .at) (c .refused .ensures)
     (rule-fault (st .args .s .now) (st .args .k) (st .args .m) (arrays st) (st .args .at) (st .pre .1 .1) (st .pre .1 .2) (c .before .before .closing-fault .result) (c .before .before .closing-fault .ensures) (search needs))
 
--- src/lib.rt:132:9
 refused-requires-2 : tie.Need-refused-requires-2
 refused-requires-2 c κs = search needs
 
--- src/lib.rt:132:9
 returns-2 : tie.Need-returns-2
 returns-2 c =
     let st = c .before .before .before .before .before .before .before .before in
     resumes-refused (st .args .s .now) (entry st) (st .args .at + 1 + 1 + 1) (arrays st) (st .pre .0) (c .refused2 .result) 7 (st .args .at) (c .refused2 .ensures)
     (rule-seventeenth (st .args .s .now) (st .args .k) (st .args .m) (arrays st) (st .args .at) (st .pre .1 .1) (st .pre .1 .2) (cc) (omega arith))
 
--- src/lib.rt:134:17
 add-first : tie.Need-add-first
 add-first c = search needs
 
--- src/lib.rt:136:9
 refused-requires-3 : tie.Need-refused-requires-3
 refused-requires-3 c κs = search needs
 
--- src/lib.rt:136:9
 returns-3 : tie.Need-returns-3
 returns-3 c =
     let st = c .before .before .before .before .before .before .before .before .before in
     resumes-refused (st .args .s .now) (entry st) (st .args .at + 1 + 1 + 1) (arrays st) (st .pre .0) (c .refused3 .result) 1 (st .args .at + 1) (c .refused3 .ensures)
     (rule-no-place (st .args .s .now) (st .args .k) (st .args .m) (arrays st) (st .args .at) (st .pre .1 .1) (st .pre .1 .2) (cc) (omega arith) (omega arith))
 
--- src/lib.rt:138:18
 add-second : tie.Need-add-second
 add-second c = search needs
 
--- src/lib.rt:140:9
 refused-requires-4 : tie.Need-refused-requires-4
 refused-requires-4 c κs = search needs
 
--- src/lib.rt:140:9
 returns-4 : tie.Need-returns-4
 returns-4 c =
     let st = c .before .before .before .before .before .before .before .before .before .before in
     resumes-refused (st .args .s .now) (entry st) (st .args .at + 1 + 1 + 1) (arrays st) (st .pre .0) (c .refused4 .result) 1 (st .args .at + 1 + 1) (c .refused4 .ensures)
     (rule-no-tag (st .args .s .now) (st .args .k) (st .args .m) (arrays st) (st .args .at) (st .pre .1 .1) (st .pre .1 .2) (cc) (omega arith) (omega arith))
 
--- src/lib.rt:142:15
 shared-slice-read-tag : tie.Need-shared-slice-read-tag
 shared-slice-read-tag c = search needs
 
--- src/lib.rt:144:9
 refused-requires-5 : tie.Need-refused-requires-5
 refused-requires-5 c κs = search needs
 
--- src/lib.rt:144:9
 returns-5 : tie.Need-returns-5
 returns-5 c =
     let st = c .before .before .before .before .before .before .before .before .before .before .before .before in
     resumes-refused (st .args .s .now) (entry st) (st .args .at + 1 + 1 + 1) (arrays st) (st .pre .0) (c .refused5 .result) 4 (st .args .at + 1 + 1) (c .refused5 .ensures)
     (rule-high (st .args .s .now) (st .args .k) (st .args .m) (arrays st) (st .args .at) (st .pre .1 .1) (st .pre .1 .2) (cc) (omega arith) (omega arith) (omega arith))
 
--- src/lib.rt:146:5
 mul-lengths : tie.Need-mul-lengths
 mul-lengths c = search needs
 
--- src/lib.rt:146:5
 element-write-lengths : tie.Need-element-write-lengths
 element-write-lengths c = search needs
 
--- src/lib.rt:147:17
 shared-slice-read-places : tie.Need-shared-slice-read-places
 shared-slice-read-places c = search needs
 
--- src/lib.rt:147:5
 element-write-places : tie.Need-element-write-places
 element-write-places c = search needs
 
--- src/lib.rt:148:5
 element-write-tags : tie.Need-element-write-tags
 element-write-tags c = search needs
 
--- src/lib.rt:151:16
 add-t17 : tie.Need-add-t17
 add-t17 c = search needs
 
--- src/lib.rt:113:1
 returns-6 : tie.Need-returns-6
 returns-6 c =
     let st = c .before .before .before .before .before .before .before .before .before .before .before .before in

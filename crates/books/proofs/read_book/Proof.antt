@@ -10,11 +10,9 @@ use Rattle.books.proofs.read_book.Reads as reads
 use Rattle.books.proofs.read_book.Lts as lts
 use Rattle.books.proofs.read_into.Reads as read-into-reads
 
--- src/lib.rt:272:5
 read-into-requires : tie.Need-read-into-requires
 read-into-requires c κs = fresh-shaped
 
--- src/lib.rt:265:1
 returns : tie.Need-returns
 returns c =
     let got = c .read-into .last .1 in

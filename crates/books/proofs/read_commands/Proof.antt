@@ -27,27 +27,21 @@ Inv-loop s k0 m0 rows₀ lengths₀ places₀ new₀ k₀ m₀ at₀ rows length
 abbrev μ-loop : tie.MeasureT-loop
 μ-loop s k0 m0 rows₀ lengths₀ places₀ new₀ k₀ m₀ at₀ rows lengths places new k m at = length s - at
 
--- src/lib.rt:230:5
 loop-holds : tie.Need-loop-holds Inv-loop μ-loop
 loop-holds c = let st = c .before in (st .pre .1 .0, st .pre .1 .1, st .pre .0, refl)
 
--- src/lib.rt:231:23
 shared-slice-read-command : tie.Need-shared-slice-read-command Inv-loop μ-loop
 shared-slice-read-command c = search needs
 
--- src/lib.rt:233:17
 add-tag-requires : tie.Need-add-tag-requires Inv-loop μ-loop
 add-tag-requires c κs = search needs
 
--- src/lib.rt:234:36
 enum-known-got : tie.Need-enum-known-got Inv-loop μ-loop
 enum-known-got c = search needs
 
--- src/lib.rt:235:17
 enum-told : tie.Need-enum-told Inv-loop μ-loop
 enum-told c = search needs
 
--- src/lib.rt:235:17
 returns : tie.Need-returns Inv-loop μ-loop
 returns c =
     let l = c .before .before .before .before .before .before .before .before .before .before in
@@ -55,15 +49,12 @@ returns c =
     let r = c .before .before .add-tag in
     refused-ends s _ _ (l .loop .at + 1 + 1) _ (r .result) _ (c .enum-told .given .1) (r .ensures) (l .loop .inv .3)
 
--- src/lib.rt:239:13
 add-at : tie.Need-add-at Inv-loop μ-loop
 add-at c = omega (arith, c .before .before .before .add-tag .ensures .inside _ _ (c .before .got .given .1) .1)
 
--- src/lib.rt:230:5
 loop-less : tie.Need-loop-less Inv-loop μ-loop
 loop-less c = omega (arith, c .before .before .before .add-tag .ensures .inside _ _ (c .before .got .given .1) .1)
 
--- src/lib.rt:230:5
 loop-again : tie.Need-loop-again Inv-loop μ-loop
 loop-again c =
     let l = c .before .before .before .before .before .before .before .before .before .before .before in
@@ -72,29 +63,23 @@ loop-again c =
     let book = c .before .got .given in
     book-goes-on s _ _ (l .loop .at + 1 + 1) (l .loop .at + 2) _ (r .result) (book .0 .0) (book .0 .1 .0) (r .ensures) (book .1) (l .loop .inv .3) (omega arith)
 
--- src/lib.rt:243:13
 end-book-requires : tie.Need-end-book-requires Inv-loop μ-loop
 end-book-requires c κs = search needs
 
--- src/lib.rt:243:13
 returns-2 : tie.Need-returns-2 Inv-loop μ-loop
 returns-2 c =
     let l = c .before .before .before .before .before .before .before .before .before in
     record { outcome = c .end-book .ensures ∙ l .loop .inv .3; shaped = l .loop .inv .2 }
 
--- src/lib.rt:245:13
 read-rule-requires : tie.Need-read-rule-requires Inv-loop μ-loop
 read-rule-requires c κs = search needs
 
--- src/lib.rt:246:32
 enum-known-got-2 : tie.Need-enum-known-got-2 Inv-loop μ-loop
 enum-known-got-2 c = search needs
 
--- src/lib.rt:247:13
 enum-told-2 : tie.Need-enum-told-2 Inv-loop μ-loop
 enum-told-2 c = search needs
 
--- src/lib.rt:247:13
 returns-3 : tie.Need-returns-3 Inv-loop μ-loop
 returns-3 c =
     let l = c .before .before .before .before .before .before .before .before .before .before .before in
@@ -102,15 +87,12 @@ returns-3 c =
     let r = c .before .before .read-rule in
     refused-ends s _ _ (l .loop .at + 1 + 1 + 1) _ (r .result) _ (c .enum-told2 .given .1) (r .ensures) (l .loop .inv .3)
 
--- src/lib.rt:251:9
 add-at-2 : tie.Need-add-at-2 Inv-loop μ-loop
 add-at-2 c = omega (arith, c .before .before .before .read-rule .ensures .inside _ _ (c .before .got2 .given .1) .1)
 
--- src/lib.rt:230:5
 loop-less-2 : tie.Need-loop-less-2 Inv-loop μ-loop
 loop-less-2 c = omega (arith, c .before .before .before .read-rule .ensures .inside _ _ (c .before .got2 .given .1) .1)
 
--- src/lib.rt:230:5
 loop-again-2 : tie.Need-loop-again-2 Inv-loop μ-loop
 loop-again-2 c =
     let l = c .before .before .before .before .before .before .before .before .before .before .before .before in
@@ -119,11 +101,9 @@ loop-again-2 c =
     let book = c .before .got2 .given in
     book-goes-on s _ _ (l .loop .at + 1 + 1 + 1) (l .loop .at + 3) _ (r .result) (book .0 .0) (book .0 .1 .0) (r .ensures) (book .1) (l .loop .inv .3) (omega arith)
 
--- src/lib.rt:253:5
 refused-requires : tie.Need-refused-requires Inv-loop μ-loop
 refused-requires c κs = search needs
 
--- src/lib.rt:214:1
 returns-4 : tie.Need-returns-4 Inv-loop μ-loop
 returns-4 c =
     let l = c .before .before in

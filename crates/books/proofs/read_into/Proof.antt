@@ -11,19 +11,15 @@ use Rattle.books.proofs.read_into.Lts as lts
 use Rattle.books.proofs.open_book.Reads as open-book-reads
 use Rattle.books.proofs.read_commands.Reads as read-commands-reads
 
--- src/lib.rt:267:9
 open-book-requires : tie.Need-open-book-requires
 open-book-requires c κs = search needs
 
--- src/lib.rt:268:28
 enum-known-opened : tie.Need-enum-known-opened
 enum-known-opened c = search needs
 
--- src/lib.rt:269:9
 enum-told : tie.Need-enum-told
 enum-told c = search needs
 
--- src/lib.rt:269:9
 returns : tie.Need-returns
 returns c =
     let st = c .before .before .before .before in
@@ -32,7 +28,6 @@ returns c =
     let s = st .args .s .now in
     ends-whole s (read s) a (o .result) refl (refused-ends s (read s) (read s) 2 a (o .result) _ (c .enum-told .given .1) (o .ensures a (st .pre)) refl)
 
--- src/lib.rt:271:5
 read-commands-requires : tie.Need-read-commands-requires
 read-commands-requires c κs =
     let st = c .before .before .before .before .before .before .before .before .before in
@@ -43,7 +38,6 @@ read-commands-requires c κs =
     let on = book-goes-on s (read s) (read s) 2 2 a (o .result) _ _ (o .ensures a (st .pre)) (b .1) refl refl in
     (st .pre, (on .0, on .1))
 
--- src/lib.rt:257:1
 returns-2 : tie.Need-returns-2
 returns-2 c =
     let st = c .before .before .before .before .before .before .before .before .before .before in

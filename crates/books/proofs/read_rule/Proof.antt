@@ -12,23 +12,18 @@ use Rattle.books.proofs.read_rule.Lts as lts
 use Rattle.books.proofs.open_rule.Reads as open-rule-reads
 use Rattle.books.proofs.refused.Reads as refused-reads
 
--- src/lib.rt:207:8
 shared-slice-read-if1 : tie.Need-shared-slice-read-if1
 shared-slice-read-if1 c = search needs
 
--- src/lib.rt:208:9
 open-rule-requires : tie.Need-open-rule-requires
 open-rule-requires c κs = search needs
 
--- src/lib.rt:208:9
 returns : tie.Need-returns
 returns c = search needs
 
--- src/lib.rt:210:5
 refused-requires : tie.Need-refused-requires
 refused-requires c κs = search needs
 
--- src/lib.rt:193:1
 returns-2 : tie.Need-returns-2
 returns-2 c =
     let st = c .before .before .before .before in

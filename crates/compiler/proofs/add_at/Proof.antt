@@ -17,47 +17,37 @@ use Rattle.words.proofs.wide.Reads as wide-reads
 abbrev arrays : tie.Start → Kept
 arrays st = kept (st .args .rows .now) (st .args .lengths .now) (st .args .places .now) (st .args .tags .now)
 
--- src/lib.rt:81:15
 mul-row : tie.Need-mul-row
 mul-row c = search needs
 
--- src/lib.rt:81:15
 element-copy-out-row : tie.Need-element-copy-out-row
 element-copy-out-row c = search needs
 
--- src/lib.rt:82:15
 mul-len : tie.Need-mul-len
 mul-len c = search needs
 
--- src/lib.rt:82:15
 element-copy-out-len : tie.Need-element-copy-out-len
 element-copy-out-len c = search needs
 
--- src/lib.rt:83:22
 element-copy-out-wide : tie.Need-element-copy-out-wide
 element-copy-out-wide c = search needs
 
--- src/lib.rt:83:9
 wide-requires : tie.Need-wide-requires
 wide-requires c κs = search needs
 
--- src/lib.rt:84:15
 element-copy-out-tag : tie.Need-element-copy-out-tag
 element-copy-out-tag c = search needs
 
--- src/lib.rt:85:45
 array-share-prefix-row : tie.Need-array-share-prefix-row
 array-share-prefix-row c =
     let st = c .before .before .before .before .before .before .before in
     omega (arith, st .pre .0 .length-short (st .args .i), st .pre .0 .row-long (st .args .i) (st .pre .1 .0))
 
--- src/lib.rt:85:45
 slice-aggregate-add-rule : tie.Need-slice-aggregate-add-rule
 slice-aggregate-add-rule c =
     let st = c .before .before .before .before .before .before .before .before in
     sym (pattern-long (arrays st) (st .pre .0) (st .args .i) (st .pre .1 .0))
 
--- src/lib.rt:85:5
 add-rule-requires : tie.Need-add-rule-requires
 add-rule-requires c κs =
     let st = c .before .before .before .before .before .before .before .before in
@@ -65,11 +55,9 @@ add-rule-requires c κs =
     let r = ruleAt (arrays st) (a .i) in
     subst (λ (p : ℕ). Addable (a .g) (a .work .now) (a .n) (a .ceiling) (rule (r .pattern) p (r .tag))) (sym (c .before .before .before .wide .ensures .0)) (st .pre .1 .1)
 
--- src/lib.rt:65:1
 same-length : tie.Need-same-length
 same-length c = search needs
 
--- src/lib.rt:65:1
 returns : tie.Need-returns
 returns c =
     let st = c .before .before .before .before .before .before .before .before .before .before .before in

@@ -17,31 +17,25 @@ use Rattle.compiler.proofs.compile.Lts as lts
 use Rattle.books.proofs.read_into.Reads as read-into-reads
 use Rattle.compiler.proofs.compile_read.Reads as compile-read-reads
 
--- src/lib.rt:157:9
 returns : tie.Need-returns
 returns c =
     let st = c .before .before .before .before in
     all-three (bare 8 refl _ (too-low (st .args .book .now) (st .args .ceiling) (length (st .args .work .now)) (length (st .args .out .now)) (omega arith)) (CompileAnswer.Refused (Bare 8)) refl (required (st .args .ceiling) (read (st .args .book .now))) (st .args .work .now) (st .args .out .now))
 
--- src/lib.rt:160:9
 returns-2 : tie.Need-returns-2
 returns-2 c =
     let st = c .before .before .before .before .before in
     all-three (bare 8 refl _ (too-high (st .args .book .now) (st .args .ceiling) (length (st .args .work .now)) (length (st .args .out .now)) (omega arith) (omega arith)) (CompileAnswer.Refused (Bare 8)) refl (required (st .args .ceiling) (read (st .args .book .now))) (st .args .work .now) (st .args .out .now))
 
--- src/lib.rt:166:9
 read-into-requires : tie.Need-read-into-requires
 read-into-requires c κs = fresh-shaped
 
--- src/lib.rt:168:29
 enum-known-got : tie.Need-enum-known-got
 enum-known-got c = search needs
 
--- src/lib.rt:169:34
 enum-known-got-2 : tie.Need-enum-known-got-2
 enum-known-got-2 c = search needs
 
--- src/lib.rt:169:48
 compile-read-requires : tie.Need-compile-read-requires
 compile-read-requires c κs =
     let st = c .before .before .before .before .before .before .before .before .before .before .before .before .before .before .before .before .before .before .before in
@@ -50,7 +44,6 @@ compile-read-requires c κs =
     let book = c .before .before .before .before .before .before .before .got2 .given in
     read-readable (st .args .book .now) (st .args .ceiling) (length (st .args .work .now)) (length (st .args .out .now)) (omega arith) (omega arith) a (r .result) (r .ensures) (book .0 .0) (book .0 .1 .0) (book .1)
 
--- src/lib.rt:151:1
 returns-3 : tie.Need-returns-3
 returns-3 c =
     let st = c .before .before .before .before .before .before .before .before .before .before .before .before .before in
@@ -58,15 +51,12 @@ returns-3 c =
     let a = arrays-of (r .last .1 .0) (r .last .1 .1 .0) (r .last .1 .1 .1 .0) (r .last .1 .1 .1 .1 .0) in
     all-three (book-refused (st .args .book .now) (st .args .ceiling) (length (st .args .work .now)) (length (st .args .out .now)) (omega arith) (omega arith) a (r .result) (r .ensures) _ (c .before .got .given .1) (CompileAnswer.Refused (c .before .got .given .0 .0)) refl (required (st .args .ceiling) (read (st .args .book .now))) (st .args .work .now) (st .args .out .now))
 
--- src/lib.rt:151:1
 same-length : tie.Need-same-length
 same-length c = search needs
 
--- src/lib.rt:151:1
 same-length-2 : tie.Need-same-length-2
 same-length-2 c = search needs
 
--- src/lib.rt:151:1
 returns-4 : tie.Need-returns-4
 returns-4 c =
     let st = c .before .before .before .before .before .before .before .before .before .before .before .before .before .before .before .before .before .before .before .before .before .before .before .before in

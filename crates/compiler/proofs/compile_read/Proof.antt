@@ -16,48 +16,39 @@ use Rattle.compiler.proofs.wipe.Reads as wipe-reads
 abbrev the-arrays : tie.Start → Arrays
 the-arrays st = arrays-of (st .args .rows .now) (st .args .lengths .now) (st .args .places .now) (st .args .tags .now)
 
--- src/lib.rt:137:15
 mul-entries : tie.Need-mul-entries
 mul-entries c = search needs
 
--- src/lib.rt:138:15
 wide-requires : tie.Need-wide-requires
 wide-requires c κs = search needs
 
--- src/lib.rt:139:16
 mul-entries-2 : tie.Need-mul-entries-2
 mul-entries-2 c = search needs
 
--- src/lib.rt:139:16
 add-entries : tie.Need-add-entries
 add-entries c = search needs
 
--- src/lib.rt:141:29
 add-entries-2 : tie.Need-add-entries-2
 add-entries-2 c = search needs
 
--- src/lib.rt:141:19
 mul-entries-3 : tie.Need-mul-entries-3
 mul-entries-3 c =
     let st = c .before .before .before .before .before in
     let w = c .before .before .wide in
     omega (arith, (product-small (16 * st .args .ceiling) (w .result + 1) (5 * st .args .m + 8) (omega (arith, st .pre .most)) (omega (arith, w .ensures .0, st .pre .tags)) (omega (arith, st .pre .few))) .0)
 
--- src/lib.rt:141:19
 mul-entries-4 : tie.Need-mul-entries-4
 mul-entries-4 c =
     let st = c .before .before .before .before .before .before in
     let w = c .before .before .before .wide in
     omega (arith, (product-small (16 * st .args .ceiling) (w .result + 1) (5 * st .args .m + 8) (omega (arith, st .pre .most)) (omega (arith, w .ensures .0, st .pre .tags)) (omega (arith, st .pre .few))) .1)
 
--- src/lib.rt:143:9
 returns : tie.Need-returns
 returns c =
     let st = c .before .before .before .before .before .before .before in
     let w = c .before .before .before .before .wide in
     short (st .args .k) (st .args .ceiling) (st .args .m) (the-arrays st) (st .pre) (w .result) (w .ensures .0) (st .args .work .now) (st .args .out .now) (omega arith) _ refl
 
--- src/lib.rt:145:9
 compile-rules-requires : tie.Need-compile-rules-requires
 compile-rules-requires c κs =
     let st = c .before .before .before .before .before .before .before .before .before in
@@ -65,19 +56,15 @@ compile-rules-requires c κs =
     compilable (w .result) (st .args .ceiling) (st .args .m) (the-arrays st) (st .args .work .now)
     (readable (st .args .k) (st .args .ceiling) (st .args .m) (the-arrays st) (st .pre) (w .result) (w .ensures .0)) (omega arith)
 
--- src/lib.rt:146:5
 wipe-requires : tie.Need-wipe-requires
 wipe-requires c κs = search needs
 
--- src/lib.rt:122:1
 same-length : tie.Need-same-length
 same-length c = search needs
 
--- src/lib.rt:122:1
 same-length-2 : tie.Need-same-length-2
 same-length-2 c = search needs
 
--- src/lib.rt:122:1
 returns-2 : tie.Need-returns-2
 returns-2 c =
     let st = c .before .before .before .before .before .before .before .before .before .before .before .before .before .before .before .before .before .before in

@@ -25,40 +25,34 @@ abbrev μ-loop : tie.MeasureT-loop
 abbrev the-arrays : tie.Start Inv-loop μ-loop → Arrays
 the-arrays st = arrays-of (st .args .rows .now) (st .args .lengths .now) (st .args .places .now) (st .args .tags .now)
 
--- behind the identity's row
+-- after the identity's row
 now-ok : (st : tie.Start Inv-loop μ-loop) (X : List ℕ) → length X ≡ length (st .args .work .now) → Compilable (st .args .g) X (st .args .ceiling) (st .args .m) (the-arrays st)
 now-ok st X long = begun (st .args .g) (st .args .work .now) X (st .args .ceiling) (st .args .m) (the-arrays st) (st .pre) long
 
--- src/lib.rt:104:5
 write-identity-requires : tie.Need-write-identity-requires Inv-loop μ-loop
 write-identity-requires c κs = search needs
 
--- src/lib.rt:107:5
 loop-holds : tie.Need-loop-holds Inv-loop μ-loop
 loop-holds c =
     let st = c .before .before .before .before .before .before in
     let w = c .before .before .write-identity in
     progress-start (st .args .g) (w .last .0) (st .args .ceiling) (st .args .m) (the-arrays st) (now-ok st (w .last .0) (w .ensures .1 .long)) (w .ensures .0)
 
--- src/lib.rt:108:13
 add-at-requires : tie.Need-add-at-requires Inv-loop μ-loop
 add-at-requires c κs =
     let st = c .before .before .before .before .before .before .before .before .before in
     let w = c .before .before .before .before .before .write-identity in
     let l = c .before .before .loop in (
       st .pre .shaped,
-      (omega (arith, st .pre .few), addable (st .args .g) (w .last .0) (st .args .ceiling) (st .args .m) (the-arrays st) (now-ok st (w .last .0) (w .ensures .1 .long)) (l .work) (l .i) (l .n) (l .inv) (omega arith)),
+      (omega (arith, st .pre .few), addable (st .args .g) (w .last .0) (st .args .ceiling) (st .args .m) (the-arrays st) (now-ok st (w .last .0) (w .ensures .1 .long)) (l .work) (l .i) (l .n) (l .inv) (omega arith) _ (st .pre .valid _ (omega arith))),
     )
 
--- src/lib.rt:112:23
 add-t19 : tie.Need-add-t19 Inv-loop μ-loop
 add-t19 c = search needs
 
--- src/lib.rt:110:13
 same-length : tie.Need-same-length Inv-loop μ-loop
 same-length c = search needs
 
--- src/lib.rt:110:13
 returns : tie.Need-returns Inv-loop μ-loop
 returns c =
     let st = c .before .before .before .before .before .before .before .before .before .before .before .before .before in
@@ -71,15 +65,12 @@ returns c =
           (kept-too-many (st .args .g) (w .last .0) (st .args .ceiling) (st .args .m) (the-arrays st) (now-ok st (w .last .0) (w .ensures .1 .long)) (l .work) (l .i) (l .n) (l .inv) (omega arith) (u .last .0) (u .result) (u .ensures)),
     )
 
--- src/lib.rt:116:9
 add-i : tie.Need-add-i Inv-loop μ-loop
 add-i c = search needs
 
--- src/lib.rt:107:5
 loop-less : tie.Need-loop-less Inv-loop μ-loop
 loop-less c = search needs
 
--- src/lib.rt:107:5
 loop-again : tie.Need-loop-again Inv-loop μ-loop
 loop-again c =
     let st = c .before .before .before .before .before .before .before .before .before .before .before .before .before in
@@ -88,25 +79,21 @@ loop-again c =
     let u = c .before .before .before .add-at in
     progress-next (st .args .g) (w .last .0) (st .args .ceiling) (st .args .m) (the-arrays st) (now-ok st (w .last .0) (w .ensures .1 .long)) (l .work) (l .i) (l .n) (l .inv) (omega arith) (u .last .0) (u .result) (u .ensures) (omega arith)
 
--- src/lib.rt:118:5
 finish-requires : tie.Need-finish-requires Inv-loop μ-loop
 finish-requires c κs =
     let st = c .before .before .before .before .before .before .before .before .before .before in
     let w = c .before .before .before .before .before .before .write-identity in
     let l = c .before .before .before .loop in (
-      ready (st .args .g) (w .last .0) (st .args .ceiling) (st .args .m) (the-arrays st) (now-ok st (w .last .0) (w .ensures .1 .long)) (l .work) (l .i) (l .n) (l .inv) (omega arith),
+      ready (st .args .g) (w .last .0) (st .args .ceiling) (st .args .m) (the-arrays st) (now-ok st (w .last .0) (w .ensures .1 .long)) (l .work) (l .i) (l .n) (l .inv),
       (omega (arith, st .pre .tags), omega (arith, st .pre .depth, st .pre .few)),
     )
 
--- src/lib.rt:89:1
 same-length-2 : tie.Need-same-length-2 Inv-loop μ-loop
 same-length-2 c = search needs
 
--- src/lib.rt:89:1
 same-length-3 : tie.Need-same-length-3 Inv-loop μ-loop
 same-length-3 c = search needs
 
--- src/lib.rt:89:1
 returns-2 : tie.Need-returns-2 Inv-loop μ-loop
 returns-2 c =
     let st = c .before .before .before .before .before .before .before .before .before .before .before .before .before in

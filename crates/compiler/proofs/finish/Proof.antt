@@ -23,19 +23,16 @@ bytes st = encode (st .args .g .tags) (tableAt (st .args .g) (st .args .work .no
 same : (st : tie.Start) → length (encode (st .args .g .tags) (rowsIn (st .args .g) (st .args .work .now) 0 (st .args .n))) ≡ length (bytes st)
 same st = ap (λ (t : Table). length (encode (st .args .g .tags) t)) (rows-in (st .args .g) (st .args .work .now) 0 (st .args .n))
 
--- src/lib.rt:37:9
 measure-requires : tie.Need-measure-requires
 measure-requires c κs =
     let st = c .before .before in
     writable (st .args .g) (st .args .work .now) (st .args .n) (st .pre .0) (st .pre .1 .0) (st .pre .1 .1)
 
--- src/lib.rt:39:9
 returns : tie.Need-returns
 returns c =
     let st = c .before .before .before .before in
     too-short (bytes st) (st .args .out .now) (omega (arith, c .before .measure .ensures, same st)) _ refl
 
--- src/lib.rt:41:9
 write-table-requires : tie.Need-write-table-requires
 write-table-requires c κs =
     let st = c .before .before .before .before .before in (
@@ -43,11 +40,9 @@ write-table-requires c κs =
       omega (arith, c .before .before .measure .ensures),
     )
 
--- src/lib.rt:32:1
 same-length : tie.Need-same-length
 same-length c = search needs
 
--- src/lib.rt:32:1
 returns-2 : tie.Need-returns-2
 returns-2 c =
     let st = c .before .before .before .before .before .before .before .before in

@@ -8,23 +8,18 @@ use Rattle.compose.proofs.begin.Lts as lts
 use Rattle.workspace.proofs.clear_notes.Reads as clear-notes-reads
 use Rattle.workspace.proofs.put.Reads as put-reads
 
--- src/lib.rt:88:5
 clear-notes-requires : tie.Need-clear-notes-requires
 clear-notes-requires c κs = search needs
 
--- src/lib.rt:89:5
 put-requires : tie.Need-put-requires
 put-requires c κs = search needs
 
--- src/lib.rt:90:5
 put-requires-2 : tie.Need-put-requires-2
 put-requires-2 c κs = search needs
 
--- src/lib.rt:83:1
 same-length : tie.Need-same-length
 same-length c = search needs
 
--- src/lib.rt:83:1
 returns : tie.Need-returns
 returns c =
     let st = c .before .before .before .before .before .before .before .before .before .before .before .before .before in

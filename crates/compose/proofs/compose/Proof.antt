@@ -23,33 +23,27 @@ Inv-loop work₀ g first n second m base len₀ i₀ work len i = Searching g wo
 abbrev μ-loop : tie.MeasureT-loop
 μ-loop work₀ g first n second m base len₀ i₀ work len i = n * m - i
 
--- src/lib.rt:234:26
 mul-begin : tie.Need-mul-begin Inv-loop μ-loop
 mul-begin c = let st = c .before .before in omega (arith, st .pre .above, st .pre .second-holds .room, st .pre .sized .rows-small)
 
--- src/lib.rt:234:5
 begin-requires : tie.Need-begin-requires Inv-loop μ-loop
 begin-requires c κs =
     let st = c .before .before in
     let a = st .args in
     (room (a .g) _ _ _ _ _ _ (st .pre), pairs-some (a .g) _ _ _ _ _ _ (st .pre))
 
--- src/lib.rt:237:5
 loop-holds : tie.Need-loop-holds Inv-loop μ-loop
 loop-holds c = searching-start _ _ _ _ _ (c .before .before .begin .ensures .1)
 
--- src/lib.rt:238:30
 add-get : tie.Need-add-get Inv-loop μ-loop
 add-get c = let st = c .before .before .before .before .before .before .before .before in omega (arith, c .before .before .loop .inv .pairs .low, st .pre .above, st .pre .second-holds .room, st .pre .sized .rows-small)
 
--- src/lib.rt:238:13
 get-requires : tie.Need-get-requires Inv-loop μ-loop
 get-requires c κs =
     let st = c .before .before .before .before .before .before .before .before in
     let inv = c .before .before .loop .inv in
     omega (arith, inv .pairs .low, inv .kept .long, c .before .before .before .before .before .begin .ensures .0 .long, st .pre .above, st .pre .second-holds .room, st .pre .room)
 
--- src/lib.rt:239:9
 pair-row-requires : tie.Need-pair-row-requires Inv-loop μ-loop
 pair-row-requires c κs =
     let st = c .before .before .before .before .before .before .before .before .before .before in
@@ -60,17 +54,14 @@ pair-row-requires c κs =
     let s = c .before .get .ensures in
     (composable-kept (a .g) _ _ _ _ _ _ start _ (inv .kept), (inv .pairs, (omega arith, omega (arith, s .is, inv .pairs .below (c .before .before .before .before .loop .i) (omega arith)))))
 
--- src/lib.rt:240:9
 add-i : tie.Need-add-i Inv-loop μ-loop
 add-i c = search needs
 
--- src/lib.rt:237:5
 loop-less : tie.Need-loop-less Inv-loop μ-loop
 loop-less c =
     let inv = c .before .before .before .before .before .before .before .loop .inv in
     omega (arith, inv .pairs .low)
 
--- src/lib.rt:237:5
 loop-again : tie.Need-loop-again Inv-loop μ-loop
 loop-again c =
     let st = c .before .before .before .before .before .before .before .before .before .before .before .before .before in
@@ -81,11 +72,9 @@ loop-again c =
     searching-next (a .g) _ _ _ _ _ _ _ _ _ _ (omega arith) (c .before .before .before .before .get .ensures .is) inv
     (rw (first-same (a .g) _ _ _ _ _ _ start _ (inv .kept), second-same (a .g) _ _ _ _ _ _ start _ (inv .kept)) at (c .before .before .pair-row .ensures))
 
--- src/lib.rt:221:1
 same-length : tie.Need-same-length Inv-loop μ-loop
 same-length c = omega (arith, c .before .loop .inv .kept .long, c .before .before .before .before .begin .ensures .0 .long)
 
--- src/lib.rt:221:1
 returns : tie.Need-returns Inv-loop μ-loop
 returns c =
     let st = c .before .before .before .before .before .before .before in

@@ -10,55 +10,43 @@ use Rattle.compose.proofs.enter.Lts as lts
 use Rattle.workspace.proofs.get.Reads as get-reads
 use Rattle.workspace.proofs.put.Reads as put-reads
 
--- src/lib.rt:100:29
 add-get : tie.Need-add-get
 add-get c = search needs
 
--- src/lib.rt:100:9
 get-requires : tie.Need-get-requires
 get-requires c κs = search needs
 
--- src/lib.rt:102:9
 same-length : tie.Need-same-length
 same-length c = search needs
 
--- src/lib.rt:102:9
 returns : tie.Need-returns
 returns c = search needs
 
--- src/lib.rt:104:18
 add-put : tie.Need-add-put
 add-put c = search needs
 
--- src/lib.rt:104:5
 put-requires : tie.Need-put-requires
 put-requires c κs =
     let st = c .before .before .before .before .before in
     omega (arith, enter-room (st .args .g) _ _ _ _ (st .args .s) (st .pre .0) (st .pre .1 .0) (st .pre .1 .1) (sym (c .before .before .get .ensures .is) ∙ c .before .if1 .left))
 
--- src/lib.rt:105:18
 add-put-2 : tie.Need-add-put-2
 add-put-2 c = search needs
 
--- src/lib.rt:105:39
 add-put-3 : tie.Need-add-put-3
 add-put-3 c = search needs
 
--- src/lib.rt:105:5
 put-requires-2 : tie.Need-put-requires-2
 put-requires-2 c κs =
     let st = c .before .before .before .before .before .before .before .before .before in
     omega (arith, enter-room (st .args .g) _ _ _ _ (st .args .s) (st .pre .0) (st .pre .1 .0) (st .pre .1 .1) (sym (c .before .before .before .before .before .before .get .ensures .is) ∙ c .before .before .before .before .before .if1 .left), c .before .before .before .put .ensures .kept .long)
 
--- src/lib.rt:106:5
 add-result : tie.Need-add-result
 add-result c = search needs
 
--- src/lib.rt:94:1
 same-length-2 : tie.Need-same-length-2
 same-length-2 c = search needs
 
--- src/lib.rt:94:1
 returns-2 : tie.Need-returns-2
 returns-2 c =
     let st = c .before .before .before .before .before .before .before .before .before .before .before .before in

@@ -8,35 +8,27 @@ use Rattle.compose.proofs.pair_final.Lts as lts
 use Rattle.compose.proofs.run_into.Reads as run-into-reads
 use Rattle.workspace.proofs.append_word.Reads as append-word-reads
 
--- src/lib.rt:110:13
 div-q : tie.Need-div-q
 div-q c = let st = c .before in omega (arith, some (st .args .g) _ _ _ _ _ _ (st .pre .0))
 
--- src/lib.rt:111:43
 rem-run-into : tie.Need-rem-run-into
 rem-run-into c = let st = c .before .before in omega (arith, some (st .args .g) _ _ _ _ _ _ (st .pre .0))
 
--- src/lib.rt:111:50
 add-run-into : tie.Need-add-run-into
 add-run-into c = let st = c .before .before in omega (arith, pair-first (st .args .g) _ _ _ _ _ _ (st .pre .0) (st .args .s) (st .pre .1 .1))
 
--- src/lib.rt:111:72
 add-run-into-2 : tie.Need-add-run-into-2
 add-run-into-2 c = search needs
 
--- src/lib.rt:111:9
 run-into-requires : tie.Need-run-into-requires
 run-into-requires c κs = let st = c .before .before in runs-final (st .args .g) _ _ _ _ _ _ (st .pre .0) (st .args .i) (st .args .s) (st .pre .1 .0) (st .pre .1 .1)
 
--- src/lib.rt:112:26
 add-append-word : tie.Need-add-append-word
 add-append-word c = let st = c .before .before .before .before .before .before in omega (arith, last-inner (st .args .g) _ _ _ _ _ _ (st .pre .0) (st .args .i) (st .args .s) (st .pre .1 .0) (st .pre .1 .1) _ _ (c .before .before .before .run-into .ensures))
 
--- src/lib.rt:112:50
 add-append-word-2 : tie.Need-add-append-word-2
 add-append-word-2 c = search needs
 
--- src/lib.rt:112:5
 append-word-requires : tie.Need-append-word-requires
 append-word-requires c κs = let st = c .before .before .before .before .before .before in let run = runs-final (st .args .g) _ _ _ _ _ _ (st .pre .0) (st .args .i) (st .args .s) (st .pre .1 .0) (st .pre .1 .1) in (
   search needs,
@@ -46,11 +38,9 @@ append-word-requires c κs = let st = c .before .before .before .before .before 
   ),
 )
 
--- src/lib.rt:105:1
 same-length : tie.Need-same-length
 same-length c = search needs
 
--- src/lib.rt:105:1
 returns : tie.Need-returns
 returns c = let st = c .before .before .before .before .before .before .before .before .before in final-done (st .args .g) _ _ _ _ _ _ (st .pre .0) (st .args .i) (st .args .s) (st .pre .1 .0) (st .pre .1 .1) _ _ (c .before .before .before .before .before .before .run-into .ensures) _ (c .before .before .append-word .ensures)
 

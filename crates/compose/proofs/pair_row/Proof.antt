@@ -10,11 +10,9 @@ use Rattle.compose.proofs.pair_row.Lts as lts
 use Rattle.compose.proofs.pair_final.Reads as pair-final-reads
 use Rattle.compose.proofs.pair_steps.Reads as pair-steps-reads
 
--- src/lib.rt:215:9
 pair-steps-requires : tie.Need-pair-steps-requires
 pair-steps-requires c κs = search needs
 
--- src/lib.rt:216:5
 pair-final-requires : tie.Need-pair-final-requires
 pair-final-requires c κs =
     let st = c .before .before .before .before .before .before in
@@ -22,11 +20,9 @@ pair-final-requires c κs =
     let u = c .before .before .before .pair-steps .ensures in
     (composable-kept (a .g) _ _ _ _ _ _ (st .pre .0) _ (notes-inside (a .g) _ _ _ _ _ _ (st .pre .0) _ (a .i) (omega (arith, st .pre .1 .0 .low, st .pre .1 .1 .0)) (u .grown .kept)), (omega (arith, st .pre .1 .0 .low, st .pre .1 .1 .0), st .pre .1 .1 .1))
 
--- src/lib.rt:198:1
 same-length : tie.Need-same-length
 same-length c = search needs
 
--- src/lib.rt:198:1
 returns : tie.Need-returns
 returns c =
     let st = c .before .before .before .before .before .before .before .before .before in

@@ -12,23 +12,18 @@ use Rattle.compose.proofs.run_into.Reads as run-into-reads
 use Rattle.workspace.proofs.get.Reads as get-reads
 use Rattle.workspace.proofs.put.Reads as put-reads
 
--- src/lib.rt:128:13
 div-q : tie.Need-div-q
 div-q c = let st = c .before in omega (arith, some (st .args .g) _ _ _ _ _ _ (st .pre .0))
 
--- src/lib.rt:129:42
 rem-run-into : tie.Need-rem-run-into
 rem-run-into c = let st = c .before .before in omega (arith, some (st .args .g) _ _ _ _ _ _ (st .pre .0))
 
--- src/lib.rt:129:49
 add-run-into : tie.Need-add-run-into
 add-run-into c = let st = c .before .before in omega (arith, pair-first (st .args .g) _ _ _ _ _ _ (st .pre .0) (st .args .s) (st .pre .1 .1 .1))
 
--- src/lib.rt:129:66
 add-run-into-2 : tie.Need-add-run-into-2
 add-run-into-2 c = search needs
 
--- src/lib.rt:129:9
 run-into-requires : tie.Need-run-into-requires
 run-into-requires c κs =
     let st = c .before .before in
@@ -36,11 +31,9 @@ run-into-requires c κs =
     let hi : a .i < a .n * a .m = omega (arith, st .pre .1 .0 .low, st .pre .1 .1 .0) in
     runs-output (a .g) _ _ _ _ _ _ (st .pre .0) (a .i) (a .s) (a .a) hi (st .pre .1 .1 .1) (st .pre .1 .1 .2)
 
--- src/lib.rt:130:29
 add-get : tie.Need-add-get
 add-get c = let st = c .before .before .before .before .before .before in omega (arith, pair-first (st .args .g) _ _ _ _ _ _ (st .pre .0) (st .args .s) (st .pre .1 .1 .1))
 
--- src/lib.rt:130:9
 get-requires : tie.Need-get-requires
 get-requires c κs =
     let st = c .before .before .before .before .before .before in
@@ -49,7 +42,6 @@ get-requires c κs =
     let run = runs-output (a .g) _ _ _ _ _ _ (st .pre .0) (a .i) (a .s) (a .a) hi (st .pre .1 .1 .1) (st .pre .1 .1 .2) in
     omega (arith, run .from .row, run .from .cell, run .from .inside, c .before .before .before .run-into .ensures .wrote .kept .long)
 
--- src/lib.rt:131:16
 mul-pair : tie.Need-mul-pair
 mul-pair c =
     let st = c .before .before .before .before .before .before .before in
@@ -57,7 +49,6 @@ mul-pair c =
     let hi : a .i < a .n * a .m = omega (arith, st .pre .1 .0 .low, st .pre .1 .1 .0) in
     omega (arith, next-small (a .g) _ _ _ _ _ _ (st .pre .0) (a .i) (a .s) (a .a) hi (st .pre .1 .1 .1) (st .pre .1 .1 .2) _ _ (c .before .before .before .before .run-into .ensures) _ (c .get .ensures))
 
--- src/lib.rt:131:16
 add-pair : tie.Need-add-pair
 add-pair c =
     let st = c .before .before .before .before .before .before .before in
@@ -65,11 +56,9 @@ add-pair c =
     let hi : a .i < a .n * a .m = omega (arith, st .pre .1 .0 .low, st .pre .1 .1 .0) in
     omega (arith, next-small (a .g) _ _ _ _ _ _ (st .pre .0) (a .i) (a .s) (a .a) hi (st .pre .1 .1 .1) (st .pre .1 .1 .2) _ _ (c .before .before .before .before .run-into .ensures) _ (c .get .ensures))
 
--- src/lib.rt:132:35
 mul-enter : tie.Need-mul-enter
 mul-enter c = search needs
 
--- src/lib.rt:132:9
 enter-requires : tie.Need-enter-requires
 enter-requires c κs =
     let st = c .before .before .before .before .before .before .before .before in
@@ -79,7 +68,6 @@ enter-requires c κs =
     let got = c .before .get .ensures in
     (run-room (a .g) _ _ _ _ _ _ (st .pre .0) (a .i) (a .s) (a .a) hi (st .pre .1 .1 .1) (st .pre .1 .1 .2) _ _ run _ got _ (st .pre .1 .0), (run-pairs (a .g) _ _ _ _ _ _ (st .pre .0) (a .i) (a .s) (a .a) hi (st .pre .1 .1 .1) (st .pre .1 .1 .2) _ _ run _ got _ (st .pre .1 .0), next-small (a .g) _ _ _ _ _ _ (st .pre .0) (a .i) (a .s) (a .a) hi (st .pre .1 .1 .1) (st .pre .1 .1 .2) _ _ run _ got .1))
 
--- src/lib.rt:133:30
 add-get-2 : tie.Need-add-get-2
 add-get-2 c =
     let st = c .before .before .before .before .before .before .before .before .before .before .before .before in
@@ -87,7 +75,6 @@ add-get-2 c =
     let hi : a .i < a .n * a .m = omega (arith, st .pre .1 .0 .low, st .pre .1 .1 .0) in
     omega (arith, next-small (a .g) _ _ _ _ _ _ (st .pre .0) (a .i) (a .s) (a .a) hi (st .pre .1 .1 .1) (st .pre .1 .1 .2) _ _ (c .before .before .before .before .before .before .before .before .before .run-into .ensures) _ (c .before .before .before .before .before .get .ensures), st .pre .0 .above, st .pre .0 .second-holds .room)
 
--- src/lib.rt:133:9
 get-requires-2 : tie.Need-get-requires-2
 get-requires-2 c κs =
     let st = c .before .before .before .before .before .before .before .before .before .before .before .before in
@@ -95,23 +82,18 @@ get-requires-2 c κs =
     let hi : a .i < a .n * a .m = omega (arith, st .pre .1 .0 .low, st .pre .1 .1 .0) in
     omega (arith, next-small (a .g) _ _ _ _ _ _ (st .pre .0) (a .i) (a .s) (a .a) hi (st .pre .1 .1 .1) (st .pre .1 .1 .2) _ _ (c .before .before .before .before .before .before .before .before .before .run-into .ensures) _ (c .before .before .before .before .before .get .ensures), st .pre .0 .above, st .pre .0 .second-holds .room, st .pre .0 .room, c .before .before .before .before .before .before .before .before .before .run-into .ensures .wrote .kept .long, c .before .before .before .enter .ensures .grown .kept .long)
 
--- src/lib.rt:134:18
 add-put : tie.Need-add-put
 add-put c = search needs
 
--- src/lib.rt:134:34
 sub-put : tie.Need-sub-put
 sub-put c = search needs
 
--- src/lib.rt:134:5
 put-requires : tie.Need-put-requires
 put-requires c κs = search needs
 
--- src/lib.rt:110:1
 same-length : tie.Need-same-length
 same-length c = search needs
 
--- src/lib.rt:110:1
 returns : tie.Need-returns
 returns c =
     let st = c .before .before .before .before .before .before .before .before .before .before .before .before .before .before .before .before .before in

@@ -20,11 +20,9 @@ Inv-loop work₀ g first n second m base len i s tags to₀ a₀ work to a = (a 
 abbrev μ-loop : tie.MeasureT-loop
 μ-loop work₀ g first n second m base len i s tags to₀ a₀ work to a = g .tags - a
 
--- src/lib.rt:158:5
 loop-holds : tie.Need-loop-holds Inv-loop μ-loop
 loop-holds c = let st = c .before in let a = st .args in (omega arith, steps-start (a .g) _ _ _ _ _ (a .i) (a .s) (st .pre .1 .0))
 
--- src/lib.rt:159:9
 pair-step-requires : tie.Need-pair-step-requires Inv-loop μ-loop
 pair-step-requires c κs =
     let st = c .before .before .before .before in
@@ -35,15 +33,12 @@ pair-step-requires c κs =
       (inv .grown .pairs, (omega (arith, inv .grown .more, st .pre .1 .1 .0), st .pre .1 .1 .1, omega arith)),
     )
 
--- src/lib.rt:160:9
 add-a : tie.Need-add-a Inv-loop μ-loop
 add-a c = search needs
 
--- src/lib.rt:158:5
 loop-less : tie.Need-loop-less Inv-loop μ-loop
 loop-less c = search needs
 
--- src/lib.rt:158:5
 loop-again : tie.Need-loop-again Inv-loop μ-loop
 loop-again c =
     let st = c .before .before .before .before .before .before .before in
@@ -55,11 +50,9 @@ loop-again c =
       steps-next (a .g) _ _ _ _ _ (a .i) (a .s) _ _ _ _ _ (omega arith) inv (rw (first-same (a .g) _ _ _ _ _ _ (st .pre .0) _ k, second-same (a .g) _ _ _ _ _ _ (st .pre .0) _ k) at (c .before .before .pair-step .ensures)),
     )
 
--- src/lib.rt:138:1
 same-length : tie.Need-same-length Inv-loop μ-loop
 same-length c = c .before .loop .inv .1 .grown .kept .long
 
--- src/lib.rt:138:1
 returns : tie.Need-returns Inv-loop μ-loop
 returns c =
     let a = c .before .before .before .args in

@@ -8,19 +8,15 @@ use Rattle.compose.proofs.run_into.Lts as lts
 use Rattle.compose.proofs.run_word.Reads as run-word-reads
 use Rattle.workspace.proofs.clear.Reads as clear-reads
 
--- src/lib.rt:66:5
 clear-requires : tie.Need-clear-requires
 clear-requires c κs = search needs
 
--- src/lib.rt:67:5
 run-word-requires : tie.Need-run-word-requires
 run-word-requires c κs = let st = c .before .before .before .before .before .before in runs-clear (st .args .g) _ _ _ _ _ _ _ _ _ _ _ (st .pre) (c .before .before .before .clear .ensures)
 
--- src/lib.rt:50:1
 same-length : tie.Need-same-length
 same-length c = search needs
 
--- src/lib.rt:50:1
 returns : tie.Need-returns
 returns c = let st = c .before .before .before .before .before .before .before .before .before in ran-clear (st .args .g) _ _ _ _ _ _ _ _ _ _ _ (st .pre) (c .before .before .before .before .before .before .clear .ensures) _ _ (c .before .before .run-word .ensures)
 

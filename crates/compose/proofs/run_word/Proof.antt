@@ -15,74 +15,60 @@ Inv-loop work₀ g base m q r c s r2 c2 s2 n state₀ i₀ work state i = Runnin
 abbrev μ-loop : tie.MeasureT-loop
 μ-loop work₀ g base m q r c s r2 c2 s2 n state₀ i₀ work state i = n - i
 
--- src/lib.rt:38:9
 get-requires : tie.Need-get-requires Inv-loop μ-loop
 get-requires c κs = search needs
 
--- src/lib.rt:41:5
 loop-holds : tie.Need-loop-holds Inv-loop μ-loop
 loop-holds c = let st = c .before .before .before in running-start (st .args .g) _ _ _ _ _ _ _ _ _ _ (st .pre)
 
--- src/lib.rt:42:38
 add-get : tie.Need-add-get Inv-loop μ-loop
 add-get c = search needs
 
--- src/lib.rt:42:38
 add-get-2 : tie.Need-add-get-2 Inv-loop μ-loop
 add-get-2 c = search needs
 
--- src/lib.rt:42:13
 get-requires-2 : tie.Need-get-requires-2 Inv-loop μ-loop
 get-requires-2 c κs = search needs
 
--- src/lib.rt:43:30
 add-append-word : tie.Need-add-append-word Inv-loop μ-loop
 add-append-word c =
     let st = c .before .before .before .before .before .before .before .before in
     let read = reading (st .args .g) _ _ _ _ _ _ _ _ _ _ (st .pre) _ _ _ (c .before .get2 .result) (c .before .before .before .before .loop .inv) (omega (arith, c .before .before .before .before .before .get .ensures .is)) (c .before .get2 .ensures) in
     omega (arith, read .from .row, st .pre .sized .rows-small)
 
--- src/lib.rt:43:9
 append-word-requires : tie.Need-append-word-requires Inv-loop μ-loop
 append-word-requires c κs =
     let st = c .before .before .before .before .before .before .before .before in
     let read = reading (st .args .g) _ _ _ _ _ _ _ _ _ _ (st .pre) _ _ _ (c .before .get2 .result) (c .before .before .before .before .loop .inv) (omega (arith, c .before .before .before .before .before .get .ensures .is)) (c .before .get2 .ensures) in
     (search needs, (read .from, (read .room, (st .pre .row, st .pre .cell, read .other))))
 
--- src/lib.rt:44:30
 add-get-3 : tie.Need-add-get-3 Inv-loop μ-loop
 add-get-3 c =
     let st = c .before .before .before .before .before .before .before .before .before .before .before .before in
     let read = reading (st .args .g) _ _ _ _ _ _ _ _ _ _ (st .pre) _ _ _ (c .before .before .before .before .before .get2 .result) (c .before .before .before .before .before .before .before .before .loop .inv) (omega (arith, c .before .before .before .before .before .before .before .before .before .get .ensures .is)) (c .before .before .before .before .before .get2 .ensures) in
     omega (arith, read .from .row, st .pre .sized .rows-small)
 
--- src/lib.rt:44:9
 get-requires-3 : tie.Need-get-requires-3 Inv-loop μ-loop
 get-requires-3 c κs =
     let st = c .before .before .before .before .before .before .before .before .before .before .before .before in
     let read = reading (st .args .g) _ _ _ _ _ _ _ _ _ _ (st .pre) _ _ _ (c .before .before .before .before .before .get2 .result) (c .before .before .before .before .before .before .before .before .loop .inv) (omega (arith, c .before .before .before .before .before .before .before .before .before .get .ensures .is)) (c .before .before .before .before .before .get2 .ensures) in
     omega (arith, read .from, read .from .row, read .from .cell, read .from .inside)
 
--- src/lib.rt:45:9
 add-i : tie.Need-add-i Inv-loop μ-loop
 add-i c = search needs
 
--- src/lib.rt:41:5
 loop-less : tie.Need-loop-less Inv-loop μ-loop
 loop-less c = search needs
 
--- src/lib.rt:41:5
 loop-again : tie.Need-loop-again Inv-loop μ-loop
 loop-again c =
     let st = c .before .before .before .before .before .before .before .before .before .before .before .before .before in
     running-next (st .args .g) _ _ _ _ _ _ _ _ _ _ (st .pre) _ _ _ _ (c .before .before .before .before .before .before .before .before .before .loop .inv) (omega (arith, c .before .before .before .before .before .before .before .before .before .before .get .ensures .is)) _ _
     (reading (st .args .g) _ _ _ _ _ _ _ _ _ _ (st .pre) _ _ _ (c .before .before .before .before .before .before .get2 .result) (c .before .before .before .before .before .before .before .before .before .loop .inv) (omega (arith, c .before .before .before .before .before .before .before .before .before .before .get .ensures .is)) (c .before .before .before .before .before .before .get2 .ensures)) (c .before .before .before .before .append-word .ensures) (c .get3 .ensures)
 
--- src/lib.rt:22:1
 same-length : tie.Need-same-length Inv-loop μ-loop
 same-length c = c .before .loop .inv .kept .long
 
--- src/lib.rt:22:1
 returns : tie.Need-returns Inv-loop μ-loop
 returns c = let st = c .before .before .before .before .before in running-end (st .args .g) _ _ _ _ _ _ _ _ _ _ (st .pre) _ _ _ (c .before .loop .inv) (omega (arith, c .before .before .get .ensures .is))
 

@@ -24,35 +24,28 @@ abbrev μ-loop : tie.MeasureT-loop
 abbrev rows : tie.Start Inv-loop μ-loop → ℕ → Row
 rows st q = rowIn (st .args .g) (st .args .work .now) (st .args .base + q)
 
--- src/lib.rt:152:5
 loop-holds : tie.Need-loop-holds Inv-loop μ-loop
 loop-holds c = search needs
 
--- src/lib.rt:153:39
 add-measure-row : tie.Need-add-measure-row Inv-loop μ-loop
 add-measure-row c =
     let st = c .before .before .before in
     omega (arith, st .pre .room, st .pre .sized .rows-small)
 
--- src/lib.rt:153:18
 measure-row-requires : tie.Need-measure-row-requires Inv-loop μ-loop
 measure-row-requires c κs =
     let st = c .before .before .before in
     (st .pre .rows (c .before .loop .q) (omega arith), st .pre .tags)
 
--- src/lib.rt:153:9
 add-total : tie.Need-add-total Inv-loop μ-loop
 add-total c = omega (arith, c .measure-row .ensures .low, c .before .before .before .before .pre .states)
 
--- src/lib.rt:154:9
 add-q : tie.Need-add-q Inv-loop μ-loop
 add-q c = search needs
 
--- src/lib.rt:152:5
 loop-less : tie.Need-loop-less Inv-loop μ-loop
 loop-less c = search needs
 
--- src/lib.rt:152:5
 loop-again : tie.Need-loop-again Inv-loop μ-loop
 loop-again c =
     let st = c .before .before .before .before in
@@ -62,11 +55,9 @@ loop-again c =
       parts-measured rowBytes (rows st) (l .q) (l .total) (c .measure-row .result) (l .inv .2) (c .measure-row .ensures .is),
     )
 
--- src/lib.rt:156:5
 add-result : tie.Need-add-result Inv-loop μ-loop
 add-result c = omega (arith, c .before .before .before .pre .states)
 
--- src/lib.rt:146:1
 returns : tie.Need-returns Inv-loop μ-loop
 returns c =
     let st = c .before .before .before in

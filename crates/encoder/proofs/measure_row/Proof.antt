@@ -9,27 +9,21 @@ use Rattle.encoder.proofs.measure_row.Lts as lts
 use Rattle.encoder.proofs.measure_steps.Reads as measure-steps-reads
 use Rattle.workspace.proofs.get.Reads as get-reads
 
--- src/lib.rt:141:9
 get-requires : tie.Need-get-requires
 get-requires c κs = search needs
 
--- src/lib.rt:142:9
 mul-result : tie.Need-mul-result
 mul-result c = search needs
 
--- src/lib.rt:142:5
 add-result : tie.Need-add-result
 add-result c = search needs
 
--- src/lib.rt:142:17
 measure-steps-requires : tie.Need-measure-steps-requires
 measure-steps-requires c κs = search needs
 
--- src/lib.rt:142:5
 add-result-2 : tie.Need-add-result-2
 add-result-2 c = search needs
 
--- src/lib.rt:135:1
 returns : tie.Need-returns
 returns c =
     let st = c .before .before .before in

@@ -20,38 +20,30 @@ Inv-loop work g r tags total₀ a₀ total a =
 abbrev μ-loop : tie.MeasureT-loop
 μ-loop work g r tags total₀ a₀ total a = tags - a
 
--- src/lib.rt:128:5
 loop-holds : tie.Need-loop-holds Inv-loop μ-loop
 loop-holds c = search needs
 
--- src/lib.rt:129:26
 get-requires : tie.Need-get-requires Inv-loop μ-loop
 get-requires c κs =
     let st = c .before .before .before in
     let a = c .before .loop .a in
     (st .pre .0 .sized, inner-in (st .args .g) (st .args .work .now) (st .args .r) a 1 (st .pre .0 .outputs a (omega arith) .inner))
 
--- src/lib.rt:129:22
 mul-total : tie.Need-mul-total Inv-loop μ-loop
 mul-total c = omega (arith, c .get .ensures .small)
 
--- src/lib.rt:129:18
 add-total : tie.Need-add-total Inv-loop μ-loop
 add-total c = omega (arith, c .get .ensures .small)
 
--- src/lib.rt:129:9
 add-total-2 : tie.Need-add-total-2 Inv-loop μ-loop
 add-total-2 c = omega (arith, c .get .ensures .small, c .before .before .before .before .pre .1)
 
--- src/lib.rt:130:9
 add-a : tie.Need-add-a Inv-loop μ-loop
 add-a c = search needs
 
--- src/lib.rt:128:5
 loop-less : tie.Need-loop-less Inv-loop μ-loop
 loop-less c = search needs
 
--- src/lib.rt:128:5
 loop-again : tie.Need-loop-again Inv-loop μ-loop
 loop-again c =
     let st = c .before .before .before .before in
@@ -62,7 +54,6 @@ loop-again c =
           (step-long (st .args .g) (st .args .work .now) (st .args .r) (l .a) (c .get .result) (c .get .ensures .is)),
     )
 
--- src/lib.rt:120:1
 returns : tie.Need-returns Inv-loop μ-loop
 returns c =
     let st = c .before .before .before in

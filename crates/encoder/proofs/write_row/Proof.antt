@@ -25,37 +25,29 @@ final st = tagged 0x32 (word (st .args .g) (st .args .work .now) (st .args .r) (
 abbrev steps : tie.Start → List ℕ
 steps st = joined stepBytes (stepsIn (st .args .g) (st .args .work .now) (st .args .r))
 
--- src/lib.rt:83:9
 get-requires : tie.Need-get-requires
 get-requires c κs = search needs
 
--- src/lib.rt:84:5
 slice-write-out : tie.Need-slice-write-out
 slice-write-out c = search needs
 
--- src/lib.rt:85:21
 byte-requires : tie.Need-byte-requires
 byte-requires c κs = search needs
 
--- src/lib.rt:85:9
 add-out : tie.Need-add-out
 add-out c = search needs
 
--- src/lib.rt:85:5
 slice-write-out-2 : tie.Need-slice-write-out-2
 slice-write-out-2 c = simp length-set (omega arith)
 
--- src/lib.rt:86:57
 add-write-word : tie.Need-add-write-word
 add-write-word c = search needs
 
--- src/lib.rt:86:9
 write-word-requires : tie.Need-write-word-requires
 write-word-requires c κs =
     let st = c .before .before .before .before .before in
     (st .pre .0 .sized, (st .pre .0 .final, simp length-set (omega (arith, st .pre .1, length-append (final st) (steps st)))))
 
--- src/lib.rt:87:5
 write-steps-requires : tie.Need-write-steps-requires
 write-steps-requires c κs =
     let st = c .before .before .before .before .before .before .before .before .before in
@@ -63,13 +55,11 @@ write-steps-requires c κs =
     let long : length (w .last .1 .1 .1 .1 .1 .1 .0) ≡ length (st .args .out .now) = w .kept .1 .1 .1 .1 .1 .1 .0 ∙ (simp length-set) in
     (st .pre .0, omega (arith, long, w .ensures .end, st .pre .1, length-append (final st) (steps st)))
 
--- src/lib.rt:77:1
 same-length : tie.Need-same-length
 same-length c =
     let w = c .before .before .before .before .before .before .write-word in
     c .before .before .write-steps .kept .1 .1 .1 .0 ∙ w .kept .1 .1 .1 .1 .1 .1 .0 ∙ (simp length-set)
 
--- src/lib.rt:77:1
 returns : tie.Need-returns
 returns c =
     let st = c .before .before .before .before .before .before .before .before .before .before .before .before in

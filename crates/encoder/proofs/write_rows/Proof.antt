@@ -24,17 +24,14 @@ abbrev μ-loop : tie.MeasureT-loop
 abbrev rows : tie.Start Inv-loop μ-loop → ℕ → Row
 rows st q = rowIn (st .args .g) (st .args .work .now) (st .args .base + q)
 
--- src/lib.rt:97:5
 loop-holds : tie.Need-loop-holds Inv-loop μ-loop
 loop-holds c = search needs
 
--- src/lib.rt:98:33
 add-write-row : tie.Need-add-write-row Inv-loop μ-loop
 add-write-row c =
     let st = c .before .before .before .before in
     omega (arith, st .pre .0 .room, st .pre .0 .sized .rows-small)
 
--- src/lib.rt:98:9
 write-row-requires : tie.Need-write-row-requires Inv-loop μ-loop
 write-row-requires c κs =
     let st = c .before .before .before .before .before in
@@ -43,15 +40,12 @@ write-row-requires c κs =
       parts-room rowBytes (rows st) (l .q) (st .args .n) (st .args .from) (l .to) (length (l .out)) (omega arith) (omega (arith, st .pre .1)) (l .inv .2 .end),
     )
 
--- src/lib.rt:99:9
 add-q : tie.Need-add-q Inv-loop μ-loop
 add-q c = search needs
 
--- src/lib.rt:97:5
 loop-less : tie.Need-loop-less Inv-loop μ-loop
 loop-less c = search needs
 
--- src/lib.rt:97:5
 loop-again : tie.Need-loop-again Inv-loop μ-loop
 loop-again c =
     let st = c .before .before .before .before .before .before .before .before in
@@ -62,11 +56,9 @@ loop-again c =
       parts-wrote rowBytes (rows st) (st .args .out .now) (l .out) (w .last .1 .1 .1 .0) (st .args .from) (l .to) (w .result) (l .q) (l .inv .2) (w .ensures),
     )
 
--- src/lib.rt:90:1
 same-length : tie.Need-same-length Inv-loop μ-loop
 same-length c = search needs
 
--- src/lib.rt:90:1
 returns : tie.Need-returns Inv-loop μ-loop
 returns c =
     let st = c .before .before .before .before in

@@ -5,6 +5,7 @@ use mathlib.Core.Path.{_∙_}
 use mathlib.Core.List.{_∷_}
 use lib.ListN.{length-set}
 use Rattle.tables.specs.Bytes.{tagged}
+use Rattle.tables.proofs.Words.{length-tagged}
 use Rattle.workspace.specs.Cells.{word}
 use Rattle.encoder.proofs.Laws.{wrote-three, wrote-is}
 use Rattle.encoder.proofs.write_step.Statement.{statement}
@@ -15,53 +16,42 @@ use Rattle.encoder.proofs.byte.Reads as byte-reads
 use Rattle.encoder.proofs.write_word.Reads as write-word-reads
 use Rattle.workspace.proofs.get.Reads as get-reads
 
--- src/lib.rt:54:9
 get-requires : tie.Need-get-requires
 get-requires c κs = search needs
 
--- src/lib.rt:55:5
 slice-write-out : tie.Need-slice-write-out
 slice-write-out c = search needs
 
--- src/lib.rt:56:21
 byte-requires : tie.Need-byte-requires
 byte-requires c κs = search needs
 
--- src/lib.rt:56:9
 add-out : tie.Need-add-out
 add-out c = search needs
 
--- src/lib.rt:56:5
 slice-write-out-2 : tie.Need-slice-write-out-2
 slice-write-out-2 c = simp length-set (omega arith)
 
--- src/lib.rt:57:21
 byte-requires-2 : tie.Need-byte-requires-2
 byte-requires-2 c κs = search needs
 
--- src/lib.rt:57:9
 add-out-2 : tie.Need-add-out-2
 add-out-2 c = search needs
 
--- src/lib.rt:57:5
 slice-write-out-3 : tie.Need-slice-write-out-3
 slice-write-out-3 c = simp length-set (omega arith)
 
--- src/lib.rt:58:45
 add-write-word : tie.Need-add-write-word
 add-write-word c = search needs
 
--- src/lib.rt:58:5
 write-word-requires : tie.Need-write-word-requires
 write-word-requires c κs =
     let st = c .before .before .before .before .before .before in
-    (st .pre .0 .sized, (st .pre .0 .outputs (st .args .a) (st .pre .1 .0), simp length-set (omega (arith, st .pre .1 .1))))
+    let w = word (st .args .g) (st .args .work .now) (st .args .r) (st .args .a) 1 in
+    (st .pre .0 .sized, (st .pre .0 .outputs (st .args .a) (st .pre .1 .0), simp (length-set, length-tagged) (omega (arith, st .pre .1 .1, length-tagged 0x34 w))))
 
--- src/lib.rt:49:1
 same-length : tie.Need-same-length
 same-length c = c .before .before .write-word .kept .1 .1 .1 .1 .1 .1 .0 ∙ (simp length-set)
 
--- src/lib.rt:49:1
 returns : tie.Need-returns
 returns c =
     let st = c .before .before .before .before .before .before .before .before .before in

@@ -20,11 +20,9 @@ Inv-loop work g r out₀ from tags to₀ a₀ out to a =
 abbrev μ-loop : tie.MeasureT-loop
 μ-loop work g r out₀ from tags to₀ a₀ out to a = tags - a
 
--- src/lib.rt:69:5
 loop-holds : tie.Need-loop-holds Inv-loop μ-loop
 loop-holds c = search needs
 
--- src/lib.rt:70:9
 write-step-requires : tie.Need-write-step-requires Inv-loop μ-loop
 write-step-requires c κs =
     let st = c .before .before .before .before .before in
@@ -37,15 +35,12 @@ write-step-requires c κs =
       ),
     )
 
--- src/lib.rt:71:9
 add-a : tie.Need-add-a Inv-loop μ-loop
 add-a c = search needs
 
--- src/lib.rt:69:5
 loop-less : tie.Need-loop-less Inv-loop μ-loop
 loop-less c = search needs
 
--- src/lib.rt:69:5
 loop-again : tie.Need-loop-again Inv-loop μ-loop
 loop-again c =
     let st = c .before .before .before .before .before .before .before .before in
@@ -57,11 +52,9 @@ loop-again c =
       parts-wrote stepBytes f (st .args .out .now) (l .out) (w .last .1 .1 .1 .1 .0) (st .args .from) (l .to) (w .result) (l .a) (l .inv .2) (w .ensures),
     )
 
--- src/lib.rt:61:1
 same-length : tie.Need-same-length Inv-loop μ-loop
 same-length c = search needs
 
--- src/lib.rt:61:1
 returns : tie.Need-returns Inv-loop μ-loop
 returns c =
     let st = c .before .before .before .before in

@@ -18,41 +18,32 @@ use Rattle.encoder.proofs.write_rows.Reads as write-rows-reads
 abbrev rows : tie.Start → List ℕ
 rows st = joined rowBytes (rowsIn (st .args .g) (st .args .work .now) (st .args .base) (st .args .n))
 
--- src/lib.rt:111:5
 slice-write-out : tie.Need-slice-write-out
 slice-write-out c = search needs
 
--- src/lib.rt:112:14
 byte-requires : tie.Need-byte-requires
 byte-requires c κs = search needs
 
--- src/lib.rt:112:5
 slice-write-out-2 : tie.Need-slice-write-out-2
 slice-write-out-2 c = simp length-set (omega arith)
 
--- src/lib.rt:113:14
 byte-requires-2 : tie.Need-byte-requires-2
 byte-requires-2 c κs = search needs
 
--- src/lib.rt:113:5
 slice-write-out-3 : tie.Need-slice-write-out-3
 slice-write-out-3 c = simp length-set (omega arith)
 
--- src/lib.rt:114:14
 byte-requires-3 : tie.Need-byte-requires-3
 byte-requires-3 c κs = search needs
 
--- src/lib.rt:114:5
 slice-write-out-4 : tie.Need-slice-write-out-4
 slice-write-out-4 c = simp length-set (omega arith)
 
--- src/lib.rt:115:9
 write-rows-requires : tie.Need-write-rows-requires
 write-rows-requires c κs =
     let st = c .before .before .before .before .before .before in
     (st .pre .0, simp length-set (omega (arith, st .pre .1, length-append (rows st) (0 ∷ []))))
 
--- src/lib.rt:116:5
 slice-write-out-5 : tie.Need-slice-write-out-5
 slice-write-out-5 c =
     let st = c .before .before .before .before .before .before .before .before .before in
@@ -60,7 +51,6 @@ slice-write-out-5 c =
     let long : length (w .last .1 .1 .1 .1 .0) ≡ length (st .args .out .now) = w .kept .1 .1 .1 .1 .0 ∙ (simp length-set) in
     omega (arith, long, w .ensures .end, st .pre .1, length-append (rows st) (0 ∷ []))
 
--- src/lib.rt:117:5
 add-result : tie.Need-add-result
 add-result c =
     let st = c .before .before .before .before .before .before .before .before .before in
@@ -68,7 +58,6 @@ add-result c =
     let long : length (w .last .1 .1 .1 .1 .0) ≡ length (st .args .out .now) = w .kept .1 .1 .1 .1 .0 ∙ (simp length-set) in
     omega (arith, long, w .ensures .end, st .pre .1, length-append (rows st) (0 ∷ []))
 
--- src/lib.rt:105:1
 same-length : tie.Need-same-length
 same-length c =
     let st = c .before .before .before .before .before .before .before .before .before in
@@ -76,7 +65,6 @@ same-length c =
     let long : length (w .last .1 .1 .1 .1 .0) ≡ length (st .args .out .now) = w .kept .1 .1 .1 .1 .0 ∙ (simp length-set) in
     length-set (w .last .1 .1 .1 .1 .0) (w .result) 0 ∙ long
 
--- src/lib.rt:105:1
 returns : tie.Need-returns
 returns c =
     let st = c .before .before .before .before .before .before .before .before .before in

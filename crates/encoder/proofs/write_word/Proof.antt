@@ -31,11 +31,9 @@ w st = word (st .args .g) (st .args .work .now) (st .args .r) (st .args .c) (st 
 count : (st : tie.Start Inv-loop μ-loop) (n : ℕ) → n ≡ at (st .args .g) (st .args .work .now) (st .args .r) (st .args .c) (st .args .s) → n ≡ length (w st)
 count st n e = e ∙ sym (word-length (st .args .g) (st .args .work .now) (st .args .r) (st .args .c) (st .args .s))
 
--- src/lib.rt:35:9
 get-requires : tie.Need-get-requires Inv-loop μ-loop
 get-requires c κs = search needs
 
--- src/lib.rt:38:5
 loop-holds : tie.Need-loop-holds Inv-loop μ-loop
 loop-holds c =
     let st = c .before .before .before in (
@@ -46,50 +44,39 @@ loop-holds c =
       wrote-none (st .args .out .now) (st .args .from),
     )
 
--- src/lib.rt:39:38
 add-get : tie.Need-add-get Inv-loop μ-loop
 add-get c = search needs
 
--- src/lib.rt:39:38
 add-get-2 : tie.Need-add-get-2 Inv-loop μ-loop
 add-get-2 c = search needs
 
--- src/lib.rt:39:13
 get-requires-2 : tie.Need-get-requires-2 Inv-loop μ-loop
 get-requires-2 c κs = search needs
 
--- src/lib.rt:40:9
 slice-write-out : tie.Need-slice-write-out Inv-loop μ-loop
 slice-write-out c = search needs
 
--- src/lib.rt:41:23
 byte-requires : tie.Need-byte-requires Inv-loop μ-loop
 byte-requires c κs =
     let st = c .before .before .before .before .before .before in
     let l = c .before .before .loop in
     tag-got (st .args .g) (st .args .work .now) (st .args .r) (st .args .c) (st .args .s) (l .i) (c .get2 .result) (st .pre .1 .0) (omega (arith, c .before .before .before .get .ensures .is)) (c .get2 .ensures) .1
 
--- src/lib.rt:41:13
 add-out : tie.Need-add-out Inv-loop μ-loop
 add-out c = search needs
 
--- src/lib.rt:41:9
 slice-write-out-2 : tie.Need-slice-write-out-2 Inv-loop μ-loop
 slice-write-out-2 c = simp length-set (omega arith)
 
--- src/lib.rt:42:9
 add-to : tie.Need-add-to Inv-loop μ-loop
 add-to c = search needs
 
--- src/lib.rt:43:9
 add-i : tie.Need-add-i Inv-loop μ-loop
 add-i c = search needs
 
--- src/lib.rt:38:5
 loop-less : tie.Need-loop-less Inv-loop μ-loop
 loop-less c = search needs
 
--- src/lib.rt:38:5
 loop-again : tie.Need-loop-again Inv-loop μ-loop
 loop-again c =
     let st = c .before .before .before .before .before .before .before in
@@ -103,11 +90,9 @@ loop-again c =
           (omega (arith, count st (c .before .before .before .before .get .result) (c .before .before .before .before .get .ensures .is))) (c .byte .ensures ∙ got .0) (l .inv .4),
     )
 
--- src/lib.rt:20:1
 same-length : tie.Need-same-length Inv-loop μ-loop
 same-length c = search needs
 
--- src/lib.rt:20:1
 returns : tie.Need-returns Inv-loop μ-loop
 returns c =
     let st = c .before .before .before .before .before in

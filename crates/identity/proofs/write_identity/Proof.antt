@@ -11,19 +11,15 @@ use Rattle.identity.proofs.write_identity.Lts as lts
 use Rattle.identity.proofs.write_steps.Reads as write-steps-reads
 use Rattle.workspace.proofs.clear.Reads as clear-reads
 
--- src/lib.rt:45:5
 write-steps-requires : tie.Need-write-steps-requires
 write-steps-requires c κs = search needs
 
--- src/lib.rt:46:5
 clear-requires : tie.Need-clear-requires
 clear-requires c κs = search needs
 
--- src/lib.rt:39:1
 same-length : tie.Need-same-length
 same-length c = search needs
 
--- src/lib.rt:39:1
 returns : tie.Need-returns
 returns c =
     let st = c .before .before .before .before .before .before .before .before .before in

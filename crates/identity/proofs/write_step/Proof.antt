@@ -12,23 +12,18 @@ use Rattle.workspace.proofs.clear.Reads as clear-reads
 use Rattle.workspace.proofs.push.Reads as push-reads
 use Rattle.workspace.proofs.put.Reads as put-reads
 
--- src/lib.rt:20:5
 put-requires : tie.Need-put-requires
 put-requires c κs = search needs
 
--- src/lib.rt:21:5
 clear-requires : tie.Need-clear-requires
 clear-requires c κs = search needs
 
--- src/lib.rt:22:5
 push-requires : tie.Need-push-requires
 push-requires c κs = search needs
 
--- src/lib.rt:15:1
 same-length : tie.Need-same-length
 same-length c = search needs
 
--- src/lib.rt:15:1
 returns : tie.Need-returns
 returns c =
     let a = c .before .before .before .before .before .before .before .before .before .before .before .before .before .args in

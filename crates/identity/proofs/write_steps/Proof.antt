@@ -19,25 +19,20 @@ Inv-loop work₀ g tags a₀ work a = (a ≤ g .tags) × Stepping g work₀ work
 abbrev μ-loop : tie.MeasureT-loop
 μ-loop work₀ g tags a₀ work a = tags - a
 
--- src/lib.rt:32:5
 loop-holds : tie.Need-loop-holds Inv-loop μ-loop
 loop-holds c =
     let st = c .before in
     (omega arith, stepping-start (st .args .g) 0 identity 0 (omega arith) (roomy (st .args .g) (st .pre .1 .1)) (st .args .work .now))
 
--- src/lib.rt:33:9
 write-step-requires : tie.Need-write-step-requires Inv-loop μ-loop
 write-step-requires c κs = search needs
 
--- src/lib.rt:34:9
 add-a : tie.Need-add-a Inv-loop μ-loop
 add-a c = search needs
 
--- src/lib.rt:32:5
 loop-less : tie.Need-loop-less Inv-loop μ-loop
 loop-less c = search needs
 
--- src/lib.rt:32:5
 loop-again : tie.Need-loop-again Inv-loop μ-loop
 loop-again c =
     let st = c .before .before .before .before .before .before .before in (
@@ -46,11 +41,9 @@ loop-again c =
           (c .before .before .before .before .before .loop .inv .1) (c .before .before .write-step .ensures),
     )
 
--- src/lib.rt:25:1
 same-length : tie.Need-same-length Inv-loop μ-loop
 same-length c = c .before .loop .inv .1 .kept .long
 
--- src/lib.rt:25:1
 returns : tie.Need-returns Inv-loop μ-loop
 returns c =
     let a = c .before .before .before .args in

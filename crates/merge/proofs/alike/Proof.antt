@@ -12,35 +12,27 @@ use Rattle.merge.proofs.same_nexts.Reads as same-nexts-reads
 use Rattle.merge.proofs.same_outputs.Reads as same-outputs-reads
 use Rattle.workspace.proofs.same_words.Reads as same-words-reads
 
--- src/lib.rt:63:9
 same-nexts-requires : tie.Need-same-nexts-requires
 same-nexts-requires c κs = search needs
 
--- src/lib.rt:63:9
 returns : tie.Need-returns
 returns c = let a = c .before .before .before .args in key-nexts (a .g) _ (a .base) (a .n) (a .p) (a .q) (a .first) _ (not-true _ (c .before .if1 .taken)) (c .same-nexts .ensures)
 
--- src/lib.rt:65:29
 add-same-words : tie.Need-add-same-words
 add-same-words c = search needs
 
--- src/lib.rt:65:50
 add-same-words-2 : tie.Need-add-same-words-2
 add-same-words-2 c = search needs
 
--- src/lib.rt:65:9
 same-words-requires : tie.Need-same-words-requires
 same-words-requires c κs = let st = c .before .before in let a = st .args in (st .pre .0 .sized, (final-inner (a .g) (a .work .now) (a .base) (a .n) (st .pre .0) (a .p) (st .pre .1 .0), final-inner (a .g) (a .work .now) (a .base) (a .n) (st .pre .0) (a .q) (st .pre .1 .1)))
 
--- src/lib.rt:66:9
 returns-2 : tie.Need-returns-2
 returns-2 c = let st = c .before .before .before .before in let a = st .args in key-other (a .g) _ (a .base) (a .n) (a .p) (a .q) (a .first) (not-false _ (c .before .before .if1 .left)) (λ e. c .before .same-words .ensures .not (not-true _ (c .if2 .taken)) (final-is (a .g) (a .work .now) (a .base) (a .n) (st .pre .0) (a .p) (st .pre .1 .0) ∙ e ∙ sym (final-is (a .g) (a .work .now) (a .base) (a .n) (st .pre .0) (a .q) (st .pre .1 .1))))
 
--- src/lib.rt:68:5
 same-outputs-requires : tie.Need-same-outputs-requires
 same-outputs-requires c κs = search needs
 
--- src/lib.rt:57:1
 returns-3 : tie.Need-returns-3
 returns-3 c = let st = c .before .before .before .before .before in let a = st .args in key-words (a .g) _ (a .base) (a .n) (a .p) (a .q) (a .first) _ (not-false _ (c .before .before .before .if1 .left)) (sym (final-is (a .g) (a .work .now) (a .base) (a .n) (st .pre .0) (a .p) (st .pre .1 .0)) ∙ c .before .before .same-words .ensures .so (not-false _ (c .before .if2 .left)) ∙ final-is (a .g) (a .work .now) (a .base) (a .n) (st .pre .0) (a .q) (st .pre .1 .1)) (c .same-outputs .ensures)
 

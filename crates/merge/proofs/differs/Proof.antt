@@ -8,11 +8,9 @@ use Rattle.merge.proofs.differs.Tie as tie
 use Rattle.merge.proofs.differs.Reads as reads
 use Rattle.merge.proofs.differs.Lts as lts
 
--- src/lib.rt:133:9
 returns : tie.Need-returns
 returns c = record { up = λ e. inr (c .if1 .taken); down = λ e. let z : _≡_ {A = ℕ} 0 1 = cc in absurd (omega arith) }
 
--- src/lib.rt:129:1
 returns-2 : tie.Need-returns-2
 returns-2 c = record { up = λ e. inl e; down = λ e. (e, c .if1 .left) }
 

@@ -21,43 +21,33 @@ Inv-loop work g base n q tags h₀ a₀ h a = (a ≤ g .tags) × (h < 65536) × 
 abbrev μ-loop : tie.MeasureT-loop
 μ-loop work g base n q tags h₀ a₀ h a = g .tags - a
 
--- src/lib.rt:179:30
 add-get : tie.Need-add-get Inv-loop μ-loop
 add-get c = search needs
 
--- src/lib.rt:179:9
 get-requires : tie.Need-get-requires Inv-loop μ-loop
 get-requires c κs = let st = c .before in omega (arith, st .pre .0 .inside, st .pre .0 .room)
 
--- src/lib.rt:181:5
 loop-holds : tie.Need-loop-holds Inv-loop μ-loop
 loop-holds c = (omega arith, c .get .ensures .small, c .get .ensures .is)
 
--- src/lib.rt:182:14
 mul-h : tie.Need-mul-h Inv-loop μ-loop
 mul-h c = search needs
 
--- src/lib.rt:182:36
 add-get-2 : tie.Need-add-get-2 Inv-loop μ-loop
 add-get-2 c = search needs
 
--- src/lib.rt:182:23
 get-requires-2 : tie.Need-get-requires-2 Inv-loop μ-loop
 get-requires-2 c κs = search needs
 
--- src/lib.rt:182:14
 add-h : tie.Need-add-h Inv-loop μ-loop
 add-h c = search needs
 
--- src/lib.rt:183:9
 add-a : tie.Need-add-a Inv-loop μ-loop
 add-a c = search needs
 
--- src/lib.rt:181:5
 loop-less : tie.Need-loop-less Inv-loop μ-loop
 loop-less c = search needs
 
--- src/lib.rt:181:5
 loop-again : tie.Need-loop-again Inv-loop μ-loop
 loop-again c =
     let a = c .before .before .before .before .before .args in
@@ -68,7 +58,6 @@ loop-again c =
           ∙ mixed-next (λ b. at (a .g) (a .work .now) (a .base + a .q) b 1) (at (a .g) (a .work .now) (a .base + a .q) (a .g .tags) 7) (l .a),
     )
 
--- src/lib.rt:173:1
 returns : tie.Need-returns Inv-loop μ-loop
 returns c =
     let a = c .before .before .before .before .args in

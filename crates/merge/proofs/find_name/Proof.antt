@@ -17,35 +17,27 @@ Inv-loop work g base n q c first p₀ p = Walking g work base n first q p
 abbrev μ-loop : tie.MeasureT-loop
 μ-loop work g base n q c first p₀ p = q - p
 
--- src/lib.rt:78:5
 loop-holds : tie.Need-loop-holds Inv-loop μ-loop
 loop-holds c = let st = c .before in let a = st .args in walk-start (a .g) (a .work .now) (a .base) (a .n) (a .first) (a .q) (st .pre .1 .0) (st .pre .0) (a .c) (st .pre .1 .1) (st .pre .1 .2)
 
--- src/lib.rt:78:12
 alike-requires : tie.Need-alike-requires Inv-loop μ-loop
 alike-requires c κs = search needs
 
--- src/lib.rt:79:33
 add-get : tie.Need-add-get Inv-loop μ-loop
 add-get c = search needs
 
--- src/lib.rt:79:13
 get-requires : tie.Need-get-requires Inv-loop μ-loop
 get-requires c κs = search needs
 
--- src/lib.rt:81:13
 returns : tie.Need-returns Inv-loop μ-loop
 returns c = let st = c .before .before .before .before .before .before in let a = st .args in walk-end (a .g) (a .work .now) (a .base) (a .n) (a .first) (a .q) (st .pre .1 .0) (st .pre .0) _ (c .before .before .before .before .loop .inv) (c .before .before .before .alike .ensures .not (not-true _ (c .before .before .if1 .taken))) (sym (c .before .get .ensures .is) ∙ c .if2 .taken)
 
--- src/lib.rt:78:5
 loop-less : tie.Need-loop-less Inv-loop μ-loop
 loop-less c = let st = c .before .before .before .before .before .before in let a = st .args in let w = walk-next (a .g) (a .work .now) (a .base) (a .n) (a .first) (a .q) (st .pre .1 .0) (st .pre .0) _ (c .before .before .before .before .loop .inv) (c .before .before .before .alike .ensures .not (not-true _ (c .before .before .if1 .taken))) _ (c .before .get .ensures .is) (c .if2 .left) in omega (arith, w .1, w .0 .below)
 
--- src/lib.rt:78:5
 loop-again : tie.Need-loop-again Inv-loop μ-loop
 loop-again c = let st = c .before .before .before .before .before .before in let a = st .args in walk-next (a .g) (a .work .now) (a .base) (a .n) (a .first) (a .q) (st .pre .1 .0) (st .pre .0) _ (c .before .before .before .before .loop .inv) (c .before .before .before .alike .ensures .not (not-true _ (c .before .before .if1 .taken))) _ (c .before .get .ensures .is) (c .if2 .left) .0
 
--- src/lib.rt:72:1
 returns-2 : tie.Need-returns-2 Inv-loop μ-loop
 returns-2 c = let st = c .before .before .before .before in let a = st .args in walk-hit (a .g) (a .work .now) (a .base) (a .n) (a .first) (a .q) (st .pre .1 .0) (st .pre .0) _ (c .before .before .loop .inv) (c .before .alike .ensures .so (not-false _ (c .if1 .left)))
 

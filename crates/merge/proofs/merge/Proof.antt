@@ -21,29 +21,23 @@ Inv-loop work₀ g base n going₀ work going = Kept g work₀ work (Spare g bas
 abbrev μ-loop : tie.MeasureT-loop
 μ-loop work₀ g base n going₀ work going = weight g work base n + flag going
 
--- src/lib.rt:179:5
 start-classes-requires : tie.Need-start-classes-requires Inv-loop μ-loop
 start-classes-requires c κs = search needs
 
--- src/lib.rt:180:5
 round-requires : tie.Need-round-requires Inv-loop μ-loop
 round-requires c κs = let st = c .before .before .before .before .before .before in let a = st .args in part-seated (a .g) (a .base) (a .n) (a .work .now) _ (st .pre .0) (st .pre .1) (c .before .before .before .start-classes .ensures)
 
--- src/lib.rt:182:5
 loop-holds : tie.Need-loop-holds Inv-loop μ-loop
 loop-holds c = let st = c .before .before .before .before .before .before .before .before .before in let a = st .args in
     let s = part-seated (a .g) (a .base) (a .n) (a .work .now) _ (st .pre .0) (st .pre .1) (c .before .before .before .before .before .before .start-classes .ensures) in
     (kept-none (a .g) _ _, c .before .before .round .ensures .part, worded-first (a .g) _ _ (a .base) (a .n) s _ (c .before .before .round .ensures), λ e. let z : _≡_ {A = ℕ} 0 1 = cc in absurd (omega arith))
 
--- src/lib.rt:183:9
 round-requires-2 : tie.Need-round-requires-2 Inv-loop μ-loop
 round-requires-2 c κs = c .before .before .loop .inv .1
 
--- src/lib.rt:182:5
 loop-less : tie.Need-loop-less Inv-loop μ-loop
 loop-less c = let a = c .before .before .before .before .before .before .before .before .before .before .before .before .before .before .before .args in omega (arith, round-falls (a .g) _ _ (a .base) (a .n) (c .before .before .before .before .before .loop .inv .1) _ _ (c .before .before .round2 .ensures), ap flag (c .before .before .before .before .loop-test .taken))
 
--- src/lib.rt:182:5
 loop-again : tie.Need-loop-again Inv-loop μ-loop
 loop-again c = let a = c .before .before .before .before .before .before .before .before .before .before .before .before .before .before .before .args in (
   kept-then (a .g) _ _ _ _ (c .before .before .before .before .before .loop .inv .0) (c .before .before .round2 .ensures .kept),
@@ -52,11 +46,9 @@ loop-again c = let a = c .before .before .before .before .before .before .before
   still-next (a .g) _ _ (a .base) (a .n) (c .before .before .before .before .before .loop .inv .1) _ (c .before .before .round2 .ensures),
 )
 
--- src/lib.rt:174:1
 same-length : tie.Need-same-length Inv-loop μ-loop
 same-length c = c .before .loop .inv .0 .long ∙ c .before .before .before .before .round .ensures .kept .long ∙ c .before .before .before .before .before .before .before .before .start-classes .ensures .kept .long
 
--- src/lib.rt:174:1
 returns : tie.Need-returns Inv-loop μ-loop
 returns c = let st = c .before .before .before .before .before .before .before .before .before .before .before in let a = st .args in
     let R = Spare (a .g) (a .base) (a .base + a .n) 1 4 in

@@ -7,27 +7,21 @@ use Rattle.merge.proofs.name_new.Reads as reads
 use Rattle.merge.proofs.name_new.Lts as lts
 use Rattle.workspace.proofs.put.Reads as put-reads
 
--- src/lib.rt:93:18
 add-put : tie.Need-add-put
 add-put c = search needs
 
--- src/lib.rt:93:5
 put-requires : tie.Need-put-requires
 put-requires c κs = search needs
 
--- src/lib.rt:94:18
 add-put-2 : tie.Need-add-put-2
 add-put-2 c = search needs
 
--- src/lib.rt:94:5
 put-requires-2 : tie.Need-put-requires-2
 put-requires-2 c κs = search needs
 
--- src/lib.rt:88:1
 same-length : tie.Need-same-length
 same-length c = search needs
 
--- src/lib.rt:88:1
 returns : tie.Need-returns
 returns c = let a = c .before .before .before .before .before .before .before .before .before .args in named-new (a .g) _ _ _ (a .base) (a .q) (omega (arith, c .before .before .before .before .before .before .before .before .before .pre .0 .room)) (c .before .before .before .before .before .before .put .ensures) (c .before .before .put2 .ensures)
 

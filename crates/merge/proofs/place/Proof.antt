@@ -12,63 +12,48 @@ use Rattle.merge.proofs.name_new.Reads as name-new-reads
 use Rattle.workspace.proofs.get.Reads as get-reads
 use Rattle.workspace.proofs.put.Reads as put-reads
 
--- src/lib.rt:103:26
 add-get : tie.Need-add-get
 add-get c = search needs
 
--- src/lib.rt:103:9
 get-requires : tie.Need-get-requires
 get-requires c κs = search needs
 
--- src/lib.rt:105:9
 name-new-requires : tie.Need-name-new-requires
 name-new-requires c κs = search needs
 
--- src/lib.rt:106:9
 same-length : tie.Need-same-length
 same-length c = search needs
 
--- src/lib.rt:106:9
 returns : tie.Need-returns
 returns c = let st = c .before .before .before .before .before .before .before .before in let a = st .args in place-own (a .g) (a .work .now) (a .base) (a .n) (a .first) (a .q) (st .pre .1) (st .pre .0) _ _ (c .before .before .before .before .before .get .ensures .is) (c .before .before .before .before .if1 .taken) (c .before .before .name-new .ensures)
 
--- src/lib.rt:108:9
 find-name-requires : tie.Need-find-name-requires
 find-name-requires c κs = let st = c .before .before .before .before .before in let a = st .args in (st .pre .0, (st .pre .1, omega (arith, c .before .before .get .ensures .is, c .before .if1 .left, st .pre .0 .part .low (a .q) (st .pre .1)), c .before .before .get .ensures .is))
 
--- src/lib.rt:111:22
 add-put : tie.Need-add-put
 add-put c = search needs
 
--- src/lib.rt:111:9
 put-requires : tie.Need-put-requires
 put-requires c κs = search needs
 
--- src/lib.rt:112:9
 same-length-2 : tie.Need-same-length-2
 same-length-2 c = search needs
 
--- src/lib.rt:112:9
 returns-2 : tie.Need-returns-2
 returns-2 c = let st = c .before .before .before .before .before .before .before .before .before .before .before in let a = st .args in place-hit (a .g) (a .work .now) (a .base) (a .n) (a .first) (a .q) (st .pre .1) (st .pre .0) (c .before .before .before .before .before .find-name .result) (c .before .before .before .before .before .find-name .ensures) _ (c .before .before .before .before .if2 .taken) (c .before .before .put .ensures)
 
--- src/lib.rt:114:18
 add-put-2 : tie.Need-add-put-2
 add-put-2 c = search needs
 
--- src/lib.rt:114:5
 put-requires-2 : tie.Need-put-requires-2
 put-requires-2 c κs = search needs
 
--- src/lib.rt:115:5
 name-new-requires-2 : tie.Need-name-new-requires-2
 name-new-requires-2 c κs = let st = c .before .before .before .before .before .before .before .before .before .before .before .before in let a = st .args in (ready-link (a .g) _ _ (a .base) (a .n) (c .before .before .before .before .before .before .find-name .result .at) _ (st .pre .0 .part .ready) (omega (arith, c .before .before .before .before .before .before .find-name .ensures .below)) (c .before .before .before .put2 .ensures), st .pre .1)
 
--- src/lib.rt:98:1
 same-length-3 : tie.Need-same-length-3
 same-length-3 c = search needs
 
--- src/lib.rt:98:1
 returns-3 : tie.Need-returns-3
 returns-3 c = let st = c .before .before .before .before .before .before .before .before .before .before .before .before .before .before .before in let a = st .args in place-miss (a .g) (a .work .now) (a .base) (a .n) (a .first) (a .q) (st .pre .1) (st .pre .0) (c .before .before .before .before .before .before .before .before .before .find-name .result) (c .before .before .before .before .before .before .before .before .before .find-name .ensures) _ _ (c .before .before .before .before .before .before .before .before .if2 .left) (c .before .before .before .before .before .before .put2 .ensures) (c .before .before .name-new2 .ensures)
 

@@ -7,19 +7,15 @@ use Rattle.merge.proofs.round.Lts as lts
 use Rattle.merge.proofs.split.Reads as split-reads
 use Rattle.merge.proofs.take_over.Reads as take-over-reads
 
--- src/lib.rt:158:5
 split-requires : tie.Need-split-requires
 split-requires c κs = search needs
 
--- src/lib.rt:159:5
 take-over-requires : tie.Need-take-over-requires
 take-over-requires c κs = c .before .before .before .split .ensures .parted .part .ready
 
--- src/lib.rt:154:1
 same-length : tie.Need-same-length
 same-length c = search needs
 
--- src/lib.rt:154:1
 returns : tie.Need-returns
 returns c = let st = c .before .before .before .before .before .before .before .before .before in let a = st .args in round-done (a .g) (a .work .now) (a .base) (a .n) (a .first) (st .pre) _ (c .before .before .before .before .before .before .split .ensures) _ _ (c .before .before .take-over .ensures)
 

@@ -18,56 +18,43 @@ Inv-loop work g base n p q tags a₀ a = (a ≤ g .tags) × ((b : ℕ) → b < a
 abbrev μ-loop : tie.MeasureT-loop
 μ-loop work g base n p q tags a₀ a = g .tags - a
 
--- src/lib.rt:45:5
 loop-holds : tie.Need-loop-holds Inv-loop μ-loop
 loop-holds c = (omega arith, λ b h. absurd (omega arith))
 
--- src/lib.rt:46:31
 add-get : tie.Need-add-get Inv-loop μ-loop
 add-get c = search needs
 
--- src/lib.rt:46:13
 get-requires : tie.Need-get-requires Inv-loop μ-loop
 get-requires c κs = search needs
 
--- src/lib.rt:47:31
 add-get-2 : tie.Need-add-get-2 Inv-loop μ-loop
 add-get-2 c = search needs
 
--- src/lib.rt:47:13
 get-requires-2 : tie.Need-get-requires-2 Inv-loop μ-loop
 get-requires-2 c κs = search needs
 
--- src/lib.rt:48:25
 add-get-3 : tie.Need-add-get-3 Inv-loop μ-loop
 add-get-3 c = let st = c .before .before .before .before .before in let a = st .args in omega (arith, c .before .get .ensures .is, next-at-below (a .g) (a .work .now) (a .base) (a .n) (st .pre .0) (a .p) (c .before .before .before .loop .a) (st .pre .1 .0) (omega arith))
 
--- src/lib.rt:48:12
 get-requires-3 : tie.Need-get-requires-3 Inv-loop μ-loop
 get-requires-3 c κs = let st = c .before .before .before .before .before in let a = st .args in omega (arith, c .before .get .ensures .is, next-at-below (a .g) (a .work .now) (a .base) (a .n) (st .pre .0) (a .p) (c .before .before .before .loop .a) (st .pre .1 .0) (omega arith))
 
--- src/lib.rt:48:63
 add-get-4 : tie.Need-add-get-4 Inv-loop μ-loop
 add-get-4 c = let st = c .before .before .before .before .before .before in let a = st .args in omega (arith, c .before .get2 .ensures .is, next-at-below (a .g) (a .work .now) (a .base) (a .n) (st .pre .0) (a .q) (c .before .before .before .before .loop .a) (st .pre .1 .1) (omega arith))
 
--- src/lib.rt:48:50
 get-requires-4 : tie.Need-get-requires-4 Inv-loop μ-loop
 get-requires-4 c κs = let st = c .before .before .before .before .before .before in let a = st .args in omega (arith, c .before .get2 .ensures .is, next-at-below (a .g) (a .work .now) (a .base) (a .n) (st .pre .0) (a .q) (c .before .before .before .before .loop .a) (st .pre .1 .1) (omega arith))
 
--- src/lib.rt:49:13
 returns : tie.Need-returns Inv-loop μ-loop
 returns c = let st = c .before .before .before .before .before .before .before .before in let a = st .args in decides-no _ (λ all. c .if1 .taken (c .before .before .get3 .ensures .is ∙ ap (classOf (a .g) (a .work .now) (a .base)) (c .before .before .before .before .get .ensures .is ∙ next-is (a .g) (a .work .now) (a .base) (a .n) (st .pre .0) (a .p) (c .before .before .before .before .before .before .loop .a) (st .pre .1 .0) (omega arith)) ∙ all (c .before .before .before .before .before .before .loop .a) (omega arith)
     ∙ sym (c .before .get4 .ensures .is ∙ ap (classOf (a .g) (a .work .now) (a .base)) (c .before .before .before .get2 .ensures .is ∙ next-is (a .g) (a .work .now) (a .base) (a .n) (st .pre .0) (a .q) (c .before .before .before .before .before .before .loop .a) (st .pre .1 .1) (omega arith)))))
 
--- src/lib.rt:51:9
 add-a : tie.Need-add-a Inv-loop μ-loop
 add-a c = search needs
 
--- src/lib.rt:45:5
 loop-less : tie.Need-loop-less Inv-loop μ-loop
 loop-less c = search needs
 
--- src/lib.rt:45:5
 loop-again : tie.Need-loop-again Inv-loop μ-loop
 loop-again c = let st = c .before .before .before .before .before .before .before .before in let a = st .args in (
   omega arith,
@@ -76,7 +63,6 @@ loop-again c = let st = c .before .before .before .before .before .before .befor
       ∙ c .before .get4 .ensures .is ∙ ap (classOf (a .g) (a .work .now) (a .base)) (c .before .before .before .get2 .ensures .is ∙ next-is (a .g) (a .work .now) (a .base) (a .n) (st .pre .0) (a .q) (c .before .before .before .before .before .before .loop .a) (st .pre .1 .1) (omega arith))),
 )
 
--- src/lib.rt:38:1
 returns-2 : tie.Need-returns-2 Inv-loop μ-loop
 returns-2 c = decides-yes _ (λ b h. c .before .loop .inv .1 b (omega arith))
 

@@ -18,35 +18,27 @@ Inv-loop work g base n p q tags a₀ a = (a ≤ g .tags) × ((b : ℕ) → b < a
 abbrev μ-loop : tie.MeasureT-loop
 μ-loop work g base n p q tags a₀ a = g .tags - a
 
--- src/lib.rt:29:5
 loop-holds : tie.Need-loop-holds Inv-loop μ-loop
 loop-holds c = (omega arith, λ b h. absurd (omega arith))
 
--- src/lib.rt:30:33
 add-same-words : tie.Need-add-same-words Inv-loop μ-loop
 add-same-words c = search needs
 
--- src/lib.rt:30:49
 add-same-words-2 : tie.Need-add-same-words-2 Inv-loop μ-loop
 add-same-words-2 c = search needs
 
--- src/lib.rt:30:13
 same-words-requires : tie.Need-same-words-requires Inv-loop μ-loop
 same-words-requires c κs = let st = c .before .before .before in let a = st .args in (st .pre .0 .sized, (output-inner (a .g) (a .work .now) (a .base) (a .n) (st .pre .0) (a .p) (c .before .loop .a) (st .pre .1 .0) (omega arith), output-inner (a .g) (a .work .now) (a .base) (a .n) (st .pre .0) (a .q) (c .before .loop .a) (st .pre .1 .1) (omega arith)))
 
--- src/lib.rt:31:13
 returns : tie.Need-returns Inv-loop μ-loop
 returns c = let st = c .before .before .before .before .before in let a = st .args in decides-no _ (λ all. c .before .same-words .ensures .not (not-true _ (c .if1 .taken)) (output-is (a .g) (a .work .now) (a .base) (a .n) (st .pre .0) (a .p) (c .before .before .before .loop .a) (st .pre .1 .0) (omega arith) ∙ all (c .before .before .before .loop .a) (omega arith) ∙ sym (output-is (a .g) (a .work .now) (a .base) (a .n) (st .pre .0) (a .q) (c .before .before .before .loop .a) (st .pre .1 .1) (omega arith))))
 
--- src/lib.rt:33:9
 add-a : tie.Need-add-a Inv-loop μ-loop
 add-a c = search needs
 
--- src/lib.rt:29:5
 loop-less : tie.Need-loop-less Inv-loop μ-loop
 loop-less c = search needs
 
--- src/lib.rt:29:5
 loop-again : tie.Need-loop-again Inv-loop μ-loop
 loop-again c = let st = c .before .before .before .before .before in let a = st .args in (
   omega arith,
@@ -54,7 +46,6 @@ loop-again c = let st = c .before .before .before .before .before in let a = st 
       (sym (output-is (a .g) (a .work .now) (a .base) (a .n) (st .pre .0) (a .p) (c .before .before .before .loop .a) (st .pre .1 .0) (omega arith)) ∙ c .before .same-words .ensures .so (not-false _ (c .if1 .left)) ∙ output-is (a .g) (a .work .now) (a .base) (a .n) (st .pre .0) (a .q) (c .before .before .before .loop .a) (st .pre .1 .1) (omega arith)),
 )
 
--- src/lib.rt:22:1
 returns-2 : tie.Need-returns-2 Inv-loop μ-loop
 returns-2 c = let st = c .before .before .before in decides-yes _ (λ b h. c .before .loop .inv .1 b (omega arith))
 

@@ -12,15 +12,12 @@ use Rattle.merge.proofs.digest_of.Reads as digest-of-reads
 use Rattle.workspace.proofs.get.Reads as get-reads
 use Rattle.workspace.proofs.put.Reads as put-reads
 
--- src/lib.rt:194:13
 digest-of-requires : tie.Need-digest-of-requires
 digest-of-requires c κs = search needs
 
--- src/lib.rt:194:13
 rem-b : tie.Need-rem-b
 rem-b c = search needs
 
--- src/lib.rt:195:29
 add-get : tie.Need-add-get
 add-get c =
     let st = c .before .before .before .before in
@@ -29,7 +26,6 @@ add-get c =
     let low = bucket-below (a .g) (a .base) (a .n) _ (a .q) (st .pre .0) (st .pre .1) (a .q) in
     omega (arith, is, low, st .pre .0 .ready .inside, st .pre .0 .ready .sized .rows-small)
 
--- src/lib.rt:195:9
 get-requires : tie.Need-get-requires
 get-requires c κs =
     let st = c .before .before .before .before in
@@ -38,23 +34,18 @@ get-requires c κs =
     let low = bucket-below (a .g) (a .base) (a .n) _ (a .q) (st .pre .0) (st .pre .1) (a .q) in
     omega (arith, is, low, st .pre .0 .ready .inside, st .pre .0 .ready .room)
 
--- src/lib.rt:197:22
 add-put : tie.Need-add-put
 add-put c = search needs
 
--- src/lib.rt:197:43
 sub-put : tie.Need-sub-put
 sub-put c = search needs
 
--- src/lib.rt:197:9
 put-requires : tie.Need-put-requires
 put-requires c κs = search needs
 
--- src/lib.rt:198:9
 same-length : tie.Need-same-length
 same-length c = search needs
 
--- src/lib.rt:198:9
 returns : tie.Need-returns
 returns c =
     let st = c .before .before .before .before .before .before .before .before .before .before in
@@ -63,7 +54,6 @@ returns c =
     let low = bucket-below (a .g) (a .base) (a .n) _ (a .q) (st .pre .0) (st .pre .1) (a .q) in
     seat-old (a .g) (a .base) (a .n) _ (a .q) (st .pre .0) (st .pre .1) _ _ is (c .before .before .before .before .before .get .ensures) (c .before .before .before .before .if1 .taken) _ (c .before .before .put .ensures)
 
--- src/lib.rt:200:18
 add-put-2 : tie.Need-add-put-2
 add-put-2 c =
     let st = c .before .before .before .before .before .before .before in
@@ -72,11 +62,9 @@ add-put-2 c =
     let low = bucket-below (a .g) (a .base) (a .n) _ (a .q) (st .pre .0) (st .pre .1) (a .q) in
     omega (arith, is, low, st .pre .0 .ready .inside, st .pre .0 .ready .sized .rows-small)
 
--- src/lib.rt:200:39
 add-put-3 : tie.Need-add-put-3
 add-put-3 c = search needs
 
--- src/lib.rt:200:5
 put-requires-2 : tie.Need-put-requires-2
 put-requires-2 c κs =
     let st = c .before .before .before .before .before .before .before in
@@ -85,19 +73,15 @@ put-requires-2 c κs =
     let low = bucket-below (a .g) (a .base) (a .n) _ (a .q) (st .pre .0) (st .pre .1) (a .q) in
     omega (arith, is, low, st .pre .0 .ready .inside, st .pre .0 .ready .room)
 
--- src/lib.rt:201:18
 add-put-4 : tie.Need-add-put-4
 add-put-4 c = search needs
 
--- src/lib.rt:201:5
 put-requires-3 : tie.Need-put-requires-3
 put-requires-3 c κs = search needs
 
--- src/lib.rt:189:1
 same-length-2 : tie.Need-same-length-2
 same-length-2 c = search needs
 
--- src/lib.rt:189:1
 returns-2 : tie.Need-returns-2
 returns-2 c =
     let st = c .before .before .before .before .before .before .before .before .before .before .before .before .before .before in

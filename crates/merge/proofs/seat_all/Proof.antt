@@ -18,34 +18,27 @@ Inv-loop work₀ g base n q₀ work q = (q ≤ n) × Seated g work₀ work base 
 abbrev μ-loop : tie.MeasureT-loop
 μ-loop work₀ g base n q₀ work q = n - q
 
--- src/lib.rt:209:5
 loop-holds : tie.Need-loop-holds Inv-loop μ-loop
 loop-holds c = let st = c .before in let a = st .args in (omega arith, record { kept = kept-none (a .g) (Spare (a .g) (a .base) (a .base + a .n) 1 3) (a .work .now); seating = st .pre })
 
--- src/lib.rt:210:9
 seat-requires : tie.Need-seat-requires Inv-loop μ-loop
 seat-requires c κs = (c .before .before .loop .inv .1 .seating, omega arith)
 
--- src/lib.rt:211:9
 add-q : tie.Need-add-q Inv-loop μ-loop
 add-q c = search needs
 
--- src/lib.rt:209:5
 loop-less : tie.Need-loop-less Inv-loop μ-loop
 loop-less c = search needs
 
--- src/lib.rt:209:5
 loop-again : tie.Need-loop-again Inv-loop μ-loop
 loop-again c =
     let a = c .before .before .before .before .before .before .before .args in
     let s = c .before .before .seat .ensures in
     (omega arith, record { kept = kept-then (a .g) (Spare (a .g) (a .base) (a .base + a .n) 1 3) _ _ _ (c .before .before .before .before .before .loop .inv .1 .kept) (s .kept); seating = s .seating })
 
--- src/lib.rt:204:1
 same-length : tie.Need-same-length Inv-loop μ-loop
 same-length c = c .before .loop .inv .1 .kept .long
 
--- src/lib.rt:204:1
 returns : tie.Need-returns Inv-loop μ-loop
 returns c =
     let a = c .before .before .before .args in

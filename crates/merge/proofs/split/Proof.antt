@@ -16,31 +16,24 @@ Inv-loop work₀ g base n first q₀ work q = (q ≤ n) × Placed g work₀ work
 abbrev μ-loop : tie.MeasureT-loop
 μ-loop work₀ g base n first q₀ work q = n - q
 
--- src/lib.rt:123:5
 loop-holds : tie.Need-loop-holds Inv-loop μ-loop
 loop-holds c = let st = c .before in let a = st .args in (omega arith, parted-start (a .g) (a .work .now) (a .base) (a .n) (a .first) (st .pre))
 
--- src/lib.rt:124:9
 place-requires : tie.Need-place-requires Inv-loop μ-loop
 place-requires c κs = (c .before .before .loop .inv .1 .parted, omega arith)
 
--- src/lib.rt:125:9
 add-q : tie.Need-add-q Inv-loop μ-loop
 add-q c = search needs
 
--- src/lib.rt:123:5
 loop-less : tie.Need-loop-less Inv-loop μ-loop
 loop-less c = search needs
 
--- src/lib.rt:123:5
 loop-again : tie.Need-loop-again Inv-loop μ-loop
 loop-again c = let a = c .before .before .before .before .before .before .before .args in (omega arith, placed-then (a .g) _ _ _ (a .base) (a .n) (a .first) _ _ (c .before .before .before .before .before .loop .inv .1) (c .before .before .place .ensures))
 
--- src/lib.rt:118:1
 same-length : tie.Need-same-length Inv-loop μ-loop
 same-length c = c .before .loop .inv .1 .kept .long
 
--- src/lib.rt:118:1
 returns : tie.Need-returns Inv-loop μ-loop
 returns c = let a = c .before .before .before .args in let e : c .before .loop .q ≡ a .n = omega arith in subst (λ (i : ℕ). Placed (a .g) (a .work .now) (c .before .loop .work) (a .base) (a .n) (a .first) i) e (c .before .loop .inv .1)
 

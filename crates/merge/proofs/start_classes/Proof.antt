@@ -11,22 +11,18 @@ use Rattle.merge.proofs.start_classes.Lts as lts
 use Rattle.merge.proofs.seat_all.Reads as seat-all-reads
 use Rattle.workspace.proofs.clear_notes.Reads as clear-notes-reads
 
--- src/lib.rt:220:5
 clear-notes-requires : tie.Need-clear-notes-requires
 clear-notes-requires c κs = search needs
 
--- src/lib.rt:221:5
 seat-all-requires : tie.Need-seat-all-requires
 seat-all-requires c κs =
     let st = c .before .before .before .before .before .before in
     let a = st .args in
     seating-start (a .g) (a .base) (a .n) _ _ (st .pre) (c .before .before .before .clear-notes .ensures) .seating
 
--- src/lib.rt:216:1
 same-length : tie.Need-same-length
 same-length c = search needs
 
--- src/lib.rt:216:1
 returns : tie.Need-returns
 returns c =
     let st = c .before .before .before .before .before .before .before .before .before in

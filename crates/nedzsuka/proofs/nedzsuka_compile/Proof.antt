@@ -11,27 +11,22 @@ use Rattle.nedzsuka.proofs.nedzsuka_compile.Lts as lts
 use Rattle.compiler.proofs.compile.Reads as compile-reads
 use Rattle.nedzsuka.proofs.pack_compile.Reads as pack-compile-reads
 
--- src/lib.rt:62:9
 compile-requires : tie.Need-compile-requires
 compile-requires c κs = search needs
 
--- src/lib.rt:56:1
 returns : tie.Need-returns
 returns c =
     let e = c .before .before .before .before .before .compile .ensures in
     (c .pack-compile .ensures ∙ ap packed (e .0), e .1)
 
--- src/lib.rt:63:5
 pack-compile-requires : tie.Need-pack-compile-requires
 pack-compile-requires c κs =
     let a = c .before .before .before .before .before .before .before .before .before .before .args in
     subst Legible (sym (c .before .before .before .before .compile .ensures .0)) (legible-compile (a .book .now) (a .ceiling) (length (a .work .now)) (length (a .out .now)))
 
--- src/lib.rt:56:1
 same-length : tie.Need-same-length
 same-length c = search needs
 
--- src/lib.rt:56:1
 same-length-2 : tie.Need-same-length-2
 same-length-2 c = search needs
 

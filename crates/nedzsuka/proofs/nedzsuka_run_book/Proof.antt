@@ -11,23 +11,19 @@ use Rattle.nedzsuka.proofs.nedzsuka_run_book.Lts as lts
 use Rattle.nedzsuka.proofs.pack_run.Reads as pack-run-reads
 use Rattle.tagger.proofs.run_book.Reads as run-book-reads
 
--- src/lib.rt:72:9
 run-book-requires : tie.Need-run-book-requires
 run-book-requires c κs = search needs
 
--- src/lib.rt:67:1
 returns : tie.Need-returns
 returns c =
     let e = c .before .before .before .run-book .ensures in
     (c .pack-run .ensures ∙ ap packed (e .0), e .1)
 
--- src/lib.rt:73:5
 pack-run-requires : tie.Need-pack-run-requires
 pack-run-requires c κs =
     let a = c .before .before .before .before .before .before .before .args in
     subst Legible (sym (c .before .before .run-book .ensures .0)) (legible-book (a .book .now) (a .sentence .now) (length (a .out .now)))
 
--- src/lib.rt:67:1
 same-length : tie.Need-same-length
 same-length c = search needs
 

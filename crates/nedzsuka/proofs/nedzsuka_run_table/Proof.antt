@@ -11,23 +11,19 @@ use Rattle.nedzsuka.proofs.nedzsuka_run_table.Lts as lts
 use Rattle.nedzsuka.proofs.pack_run.Reads as pack-run-reads
 use Rattle.tables.proofs.run_table.Reads as run-table-reads
 
--- src/lib.rt:82:9
 run-table-requires : tie.Need-run-table-requires
 run-table-requires c κs = search needs
 
--- src/lib.rt:77:1
 returns : tie.Need-returns
 returns c =
     let e = c .before .before .before .run-table .ensures in
     (c .pack-run .ensures ∙ ap packed (e .0), e .1)
 
--- src/lib.rt:83:5
 pack-run-requires : tie.Need-pack-run-requires
 pack-run-requires c κs =
     let a = c .before .before .before .before .before .before .before .args in
     subst Legible (sym (c .before .before .run-table .ensures .0)) (legible-table (a .table .now) (a .sentence .now) (length (a .out .now)))
 
--- src/lib.rt:77:1
 same-length : tie.Need-same-length
 same-length c = search needs
 

@@ -11,27 +11,21 @@ use Rattle.nedzsuka.proofs.pack_compile.Lts as lts
 use Rattle.nedzsuka.proofs.pack.Reads as pack-reads
 use Rattle.nedzsuka.proofs.pack_refusal.Reads as pack-refusal-reads
 
--- src/lib.rt:50:30
 enum-known-answer : tie.Need-enum-known-answer
 enum-known-answer c = search needs
 
--- src/lib.rt:50:39
 pack-requires : tie.Need-pack-requires
 pack-requires c κs = subst (λ (r : CompileAnswer). Legible (compileOutcome r)) (c .before .answer .given .1) (c .before .before .before .pre)
 
--- src/lib.rt:51:32
 enum-known-answer-2 : tie.Need-enum-known-answer-2
 enum-known-answer-2 c = search needs
 
--- src/lib.rt:51:42
 pack-refusal-requires : tie.Need-pack-refusal-requires
 pack-refusal-requires c κs = subst (λ (r : CompileAnswer). Legible (compileOutcome r)) (c .before .answer2 .given .1) (c .before .before .before .pre)
 
--- src/lib.rt:45:1
 returns : tie.Need-returns
 returns c = c .pack .ensures ∙ ap (λ (r : CompileAnswer). packed (compileOutcome r)) (sym (c .before .before .answer .given .1))
 
--- src/lib.rt:45:1
 returns-2 : tie.Need-returns-2
 returns-2 c = search needs
 

@@ -12,40 +12,31 @@ use Rattle.nedzsuka.proofs.pack_refusal.Reads as reads
 use Rattle.nedzsuka.proofs.pack_refusal.Lts as lts
 use Rattle.nedzsuka.proofs.pack.Reads as pack-reads
 
--- src/lib.rt:29:27
 enum-known-given : tie.Need-enum-known-given
 enum-known-given c = search needs
 
--- src/lib.rt:29:43
 pack-requires : tie.Need-pack-requires
 pack-requires c κs = search needs
 
--- src/lib.rt:30:27
 enum-known-given-2 : tie.Need-enum-known-given-2
 enum-known-given-2 c = search needs
 
--- src/lib.rt:30:45
 pack-requires-2 : tie.Need-pack-requires-2
 pack-requires-2 c κs =
     omega (arith, subst (λ (r : Refusal). Legible (refusal {A = ℕ} r)) (c .before .given2 .given .1) (c .before .before .before .pre) .2)
 
--- src/lib.rt:31:25
 enum-known-given-3 : tie.Need-enum-known-given-3
 enum-known-given-3 c = search needs
 
--- src/lib.rt:31:37
 pack-requires-3 : tie.Need-pack-requires-3
 pack-requires-3 c κs = search needs
 
--- src/lib.rt:24:1
 returns : tie.Need-returns
 returns c = c .pack .ensures ∙ ap (λ (r : Refusal). packed (refusal {A = ℕ} r)) (sym (c .before .before .given .given .1))
 
--- src/lib.rt:24:1
 returns-2 : tie.Need-returns-2
 returns-2 c = c .pack2 .ensures ∙ ap (λ (r : Refusal). packed (refusal {A = ℕ} r)) (sym (c .before .before .given2 .given .1))
 
--- src/lib.rt:24:1
 returns-3 : tie.Need-returns-3
 returns-3 c = c .pack3 .ensures ∙ ap (λ (r : Refusal). packed (refusal {A = ℕ} r)) (sym (c .before .before .given3 .given .1))
 

@@ -11,27 +11,21 @@ use Rattle.nedzsuka.proofs.pack_run.Lts as lts
 use Rattle.nedzsuka.proofs.pack.Reads as pack-reads
 use Rattle.nedzsuka.proofs.pack_refusal.Reads as pack-refusal-reads
 
--- src/lib.rt:40:28
 enum-known-answer : tie.Need-enum-known-answer
 enum-known-answer c = search needs
 
--- src/lib.rt:40:38
 pack-requires : tie.Need-pack-requires
 pack-requires c κs = subst (λ (r : RunAnswer). Legible (runOutcome r)) (c .before .answer .given .1) (c .before .before .before .pre)
 
--- src/lib.rt:41:28
 enum-known-answer-2 : tie.Need-enum-known-answer-2
 enum-known-answer-2 c = search needs
 
--- src/lib.rt:41:38
 pack-refusal-requires : tie.Need-pack-refusal-requires
 pack-refusal-requires c κs = subst (λ (r : RunAnswer). Legible (runOutcome r)) (c .before .answer2 .given .1) (c .before .before .before .pre)
 
--- src/lib.rt:35:1
 returns : tie.Need-returns
 returns c = c .pack .ensures ∙ ap (λ (r : RunAnswer). packed (runOutcome r)) (sym (c .before .before .answer .given .1))
 
--- src/lib.rt:35:1
 returns-2 : tie.Need-returns-2
 returns-2 c = search needs
 

@@ -9,11 +9,9 @@ use Rattle.normalize.proofs.either.Tie as tie
 use Rattle.normalize.proofs.either.Reads as reads
 use Rattle.normalize.proofs.either.Lts as lts
 
--- src/lib.rt:60:9
 returns : tie.Need-returns
 returns c = record { up = λ e. inl (c .if1 .taken); down = λ e. let z : _≡_ {A = ℕ} 0 1 = cc in absurd (omega arith) }
 
--- src/lib.rt:56:1
 returns-2 : tie.Need-returns-2
 returns-2 c = record { up = λ e. inr e; down = λ e. (c .if1 .left, e) }
 

@@ -18,27 +18,21 @@ Inv-loop work₀ g base n fell₀ q₀ work fell q = (q ≤ n) × Turn g work₀
 abbrev μ-loop : tie.MeasureT-loop
 μ-loop work₀ g base n fell₀ q₀ work fell q = n - q
 
--- src/lib.rt:86:5
 loop-holds : tie.Need-loop-holds Inv-loop μ-loop
 loop-holds c = let st = c .before in let a = st .args in (omega arith, turn-start (a .g) (a .base) (a .n) (a .work .now) (λ p. (b : ℕ) → b < a .g .tags → Rests (a .g) (a .work .now) (a .base) (a .n) p b) (st .pre))
 
--- src/lib.rt:87:29
 lower-state-requires : tie.Need-lower-state-requires Inv-loop μ-loop
 lower-state-requires c κs = let st = c .before .before .before .before in let a = st .args in (fronted-lowered (a .g) (a .work .now) (a .base) (a .n) (st .pre) _ (c .before .before .loop .inv .1 .lowered), omega arith)
 
--- src/lib.rt:87:9
 either-requires : tie.Need-either-requires Inv-loop μ-loop
 either-requires c κs = search needs
 
--- src/lib.rt:88:9
 add-q : tie.Need-add-q Inv-loop μ-loop
 add-q c = search needs
 
--- src/lib.rt:86:5
 loop-less : tie.Need-loop-less Inv-loop μ-loop
 loop-less c = search needs
 
--- src/lib.rt:86:5
 loop-again : tie.Need-loop-again Inv-loop μ-loop
 loop-again c = let st = c .before .before .before .before .before .before .before .before in let a = st .args in (
   omega arith,
@@ -46,11 +40,9 @@ loop-again c = let st = c .before .before .before .before .before .before .befor
       (λ e rest b h. subst (λ (l : List ℕ). Rests (a .g) l (a .base) (a .n) (c .before .before .before .before .before .before .loop .q) b) e (rest b h)) (c .either .ensures),
 )
 
--- src/lib.rt:80:1
 same-length : tie.Need-same-length Inv-loop μ-loop
 same-length c = c .before .loop .inv .1 .lowered .kept .long
 
--- src/lib.rt:80:1
 returns : tie.Need-returns Inv-loop μ-loop
 returns c = let a = c .before .before .before .args in turn-is (a .g) (a .base) (a .n) _ _ _ _ _ (λ all p h. all p (omega arith)) (c .before .loop .inv .1)
 

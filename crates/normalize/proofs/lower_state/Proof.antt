@@ -8,34 +8,27 @@ use Rattle.normalize.proofs.lower_state.Lts as lts
 use Rattle.normalize.proofs.lower_steps.Reads as lower-steps-reads
 use Rattle.workspace.proofs.get.Reads as get-reads
 
--- src/lib.rt:98:21
 add-get : tie.Need-add-get
 add-get c = search needs
 
--- src/lib.rt:98:8
 get-requires : tie.Need-get-requires
 get-requires c κs = search needs
 
--- src/lib.rt:99:9
 same-length : tie.Need-same-length
 same-length c = search needs
 
--- src/lib.rt:99:9
 returns : tie.Need-returns
 returns c =
     let st = c .before .before .before .before in
     let a = st .args in
     turn-empty (a .g) _ (a .base) (a .n) (st .pre .0) (a .q) _ (c .before .get .ensures .is) (c .if1 .taken)
 
--- src/lib.rt:101:5
 lower-steps-requires : tie.Need-lower-steps-requires
 lower-steps-requires c κs = search needs
 
--- src/lib.rt:93:1
 same-length-2 : tie.Need-same-length-2
 same-length-2 c = search needs
 
--- src/lib.rt:93:1
 returns-2 : tie.Need-returns-2
 returns-2 c = search needs
 

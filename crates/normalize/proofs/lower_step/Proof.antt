@@ -10,39 +10,30 @@ use Rattle.normalize.proofs.meeting.Reads as meeting-reads
 use Rattle.workspace.proofs.get.Reads as get-reads
 use Rattle.workspace.proofs.put.Reads as put-reads
 
--- src/lib.rt:47:28
 add-get : tie.Need-add-get
 add-get c = search needs
 
--- src/lib.rt:47:9
 get-requires : tie.Need-get-requires
 get-requires c κs = search needs
 
--- src/lib.rt:48:9
 meeting-requires : tie.Need-meeting-requires
 meeting-requires c κs = search needs
 
--- src/lib.rt:50:22
 add-put : tie.Need-add-put
 add-put c = search needs
 
--- src/lib.rt:50:9
 put-requires : tie.Need-put-requires
 put-requires c κs = search needs
 
--- src/lib.rt:51:9
 same-length : tie.Need-same-length
 same-length c = search needs
 
--- src/lib.rt:51:9
 returns : tie.Need-returns
 returns c = let st = c .before .before .before .before .before .before .before .before .before .before in let a = st .args in turn-fall (a .g) (a .work .now) (a .base) (a .n) (st .pre .0) (a .q) (a .a) _ _ (st .pre .1 .0) (st .pre .1 .1) (c .before .before .before .before .before .before .before .get .ensures .is) (c .before .before .before .before .before .meeting .ensures) _ (c .before .before .before .before .if1 .taken) (c .before .before .put .ensures)
 
--- src/lib.rt:42:1
 same-length-2 : tie.Need-same-length-2
 same-length-2 c = search needs
 
--- src/lib.rt:42:1
 returns-2 : tie.Need-returns-2
 returns-2 c = let st = c .before .before .before .before .before .before in let a = st .args in turn-rest (a .g) (a .work .now) (a .base) (a .n) (st .pre .0) (a .q) (a .a) _ _ (st .pre .1 .0) (st .pre .1 .1) (c .before .before .before .get .ensures .is) (c .before .meeting .ensures) (omega arith)
 

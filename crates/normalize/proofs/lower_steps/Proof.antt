@@ -18,27 +18,21 @@ Inv-loop work₀ g base n q tags fell₀ a₀ work fell a = (a ≤ g .tags) × T
 abbrev μ-loop : tie.MeasureT-loop
 μ-loop work₀ g base n q tags fell₀ a₀ work fell a = g .tags - a
 
--- src/lib.rt:73:5
 loop-holds : tie.Need-loop-holds Inv-loop μ-loop
 loop-holds c = let st = c .before in let a = st .args in (omega arith, turn-start (a .g) (a .base) (a .n) (a .work .now) (λ b. Rests (a .g) (a .work .now) (a .base) (a .n) (a .q) b) (st .pre .0))
 
--- src/lib.rt:74:29
 lower-step-requires : tie.Need-lower-step-requires Inv-loop μ-loop
 lower-step-requires c κs = let st = c .before .before .before .before in let a = st .args in (fronted-lowered (a .g) (a .work .now) (a .base) (a .n) (st .pre .0) _ (c .before .before .loop .inv .1 .lowered), (st .pre .1, omega arith))
 
--- src/lib.rt:74:9
 either-requires : tie.Need-either-requires Inv-loop μ-loop
 either-requires c κs = search needs
 
--- src/lib.rt:75:9
 add-a : tie.Need-add-a Inv-loop μ-loop
 add-a c = search needs
 
--- src/lib.rt:73:5
 loop-less : tie.Need-loop-less Inv-loop μ-loop
 loop-less c = search needs
 
--- src/lib.rt:73:5
 loop-again : tie.Need-loop-again Inv-loop μ-loop
 loop-again c = let st = c .before .before .before .before .before .before .before .before in let a = st .args in (
   omega arith,
@@ -46,11 +40,9 @@ loop-again c = let st = c .before .before .before .before .before .before .befor
       (λ e rest. subst (λ (l : List ℕ). Rests (a .g) l (a .base) (a .n) (a .q) (c .before .before .before .before .before .before .loop .a)) e rest) (c .either .ensures),
 )
 
--- src/lib.rt:65:1
 same-length : tie.Need-same-length Inv-loop μ-loop
 same-length c = c .before .loop .inv .1 .lowered .kept .long
 
--- src/lib.rt:65:1
 returns : tie.Need-returns Inv-loop μ-loop
 returns c = let a = c .before .before .before .args in turn-is (a .g) (a .base) (a .n) _ _ _ _ _ (λ all b h. all b (omega arith)) (c .before .loop .inv .1)
 

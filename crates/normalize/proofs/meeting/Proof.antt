@@ -14,31 +14,24 @@ use Rattle.workspace.proofs.common.Reads as common-reads
 use Rattle.workspace.proofs.get.Reads as get-reads
 use Rattle.words.proofs.lesser.Reads as lesser-reads
 
--- src/lib.rt:28:28
 add-get : tie.Need-add-get
 add-get c = search needs
 
--- src/lib.rt:28:9
 get-requires : tie.Need-get-requires
 get-requires c κs = search needs
 
--- src/lib.rt:29:29
 add-get-2 : tie.Need-add-get-2
 add-get-2 c = search needs
 
--- src/lib.rt:29:9
 get-requires-2 : tie.Need-get-requires-2
 get-requires-2 c κs = search needs
 
--- src/lib.rt:31:32
 add-common : tie.Need-add-common
 add-common c = search needs
 
--- src/lib.rt:31:56
 add-common-2 : tie.Need-add-common-2
 add-common-2 c = search needs
 
--- src/lib.rt:31:9
 common-requires : tie.Need-common-requires
 common-requires c κs = let st = c .before .before .before .before in let a = st .args in let r = st .pre .0 .ready in (
   r .sized,
@@ -51,19 +44,15 @@ common-requires c κs = let st = c .before .before .before .before in let a = st
   ),
 )
 
--- src/lib.rt:31:9
 returns : tie.Need-returns
 returns c = let st = c .before .before .before .before .before in let a = st .args in front-short (a .g) (a .work .now) (a .base) (a .n) (st .pre .0) (a .q) (a .a) _ _ (st .pre .1 .0) (st .pre .1 .1) (c .before .before .before .get .ensures .is) (c .before .before .get2 .ensures .is) _ (c .before .if1 .taken) (c .common .ensures)
 
--- src/lib.rt:33:29
 add-common-3 : tie.Need-add-common-3
 add-common-3 c = search needs
 
--- src/lib.rt:33:53
 add-common-4 : tie.Need-add-common-4
 add-common-4 c = search needs
 
--- src/lib.rt:33:9
 common-requires-2 : tie.Need-common-requires-2
 common-requires-2 c κs = let st = c .before .before .before .before in let a = st .args in let r = st .pre .0 .ready in (
   r .sized,
@@ -76,43 +65,33 @@ common-requires-2 c κs = let st = c .before .before .before .before in let a = 
   ),
 )
 
--- src/lib.rt:35:9
 returns-2 : tie.Need-returns-2
 returns-2 c = let st = c .before .before .before .before .before .before in let a = st .args in front-stops (a .g) (a .work .now) (a .base) (a .n) (st .pre .0) (a .q) (a .a) _ _ (st .pre .1 .0) (st .pre .1 .1) (c .before .before .before .before .get .ensures .is) (c .before .before .before .get2 .ensures .is) _ (omega arith) (c .before .common2 .ensures) (c .if2 .taken)
 
--- src/lib.rt:37:29
 add-get-3 : tie.Need-add-get-3
 add-get-3 c = search needs
 
--- src/lib.rt:37:9
 get-requires-3 : tie.Need-get-requires-3
 get-requires-3 c κs = search needs
 
--- src/lib.rt:38:30
 add-get-4 : tie.Need-add-get-4
 add-get-4 c = let st = c .before .before .before .before .before .before .before in let a = st .args in omega (arith, c .get3 .ensures .is, next-at-below (a .g) (a .work .now) (a .base) (a .n) (st .pre .0 .ready) (a .q) (a .a) (st .pre .1 .0) (st .pre .1 .1))
 
--- src/lib.rt:38:9
 get-requires-4 : tie.Need-get-requires-4
 get-requires-4 c κs = let st = c .before .before .before .before .before .before .before in let a = st .args in omega (arith, c .get3 .ensures .is, next-at-below (a .g) (a .work .now) (a .base) (a .n) (st .pre .0 .ready) (a .q) (a .a) (st .pre .1 .0) (st .pre .1 .1))
 
--- src/lib.rt:39:28
 add-common-5 : tie.Need-add-common-5
 add-common-5 c = search needs
 
--- src/lib.rt:39:55
 add-common-6 : tie.Need-add-common-6
 add-common-6 c = let st = c .before .before .before .before .before .before .before .before in let a = st .args in omega (arith, c .before .get3 .ensures .is, next-at-below (a .g) (a .work .now) (a .base) (a .n) (st .pre .0 .ready) (a .q) (a .a) (st .pre .1 .0) (st .pre .1 .1))
 
--- src/lib.rt:39:86
 sub-lesser : tie.Need-sub-lesser
 sub-lesser c = search needs
 
--- src/lib.rt:39:79
 lesser-requires : tie.Need-lesser-requires
 lesser-requires c κs = search needs
 
--- src/lib.rt:39:12
 common-requires-3 : tie.Need-common-requires-3
 common-requires-3 c κs = let st = c .before .before .before .before .before .before .before .before .before in let a = st .args in let r = st .pre .0 .ready in
     let to : c .before .before .get3 .result < a .n = omega (arith, c .before .before .get3 .ensures .is, next-at-below (a .g) (a .work .now) (a .base) (a .n) r (a .q) (a .a) (st .pre .1 .0) (st .pre .1 .1)) in (
@@ -129,7 +108,6 @@ common-requires-3 c κs = let st = c .before .before .before .before .before .be
       ),
     )
 
--- src/lib.rt:39:5
 add-result : tie.Need-add-result
 add-result c = let st = c .before .before .before .before .before .before .before .before .before .before in let a = st .args in
     let S = standing (a .g) (a .work .now) (a .base) (a .n) in
@@ -141,7 +119,6 @@ add-result c = let st = c .before .before .before .before .before .before .befor
       meeting-le (a .g) (a .work .now) (a .base) (a .n) (st .pre .0) (a .q) (st .pre .1 .0) (S .output (a .q) (a .a) ++ frontAt (a .g) (a .work .now) (a .base) (a .n) (S .next (a .q) (a .a))),
     )
 
--- src/lib.rt:23:1
 returns-3 : tie.Need-returns-3
 returns-3 c = let st = c .before .before .before .before .before .before .before .before .before .before in let a = st .args in front-goes (a .g) (a .work .now) (a .base) (a .n) (st .pre .0) (a .q) (a .a) _ _ (st .pre .1 .0) (st .pre .1 .1) (c .before .before .before .before .before .before .before .before .get .ensures .is) (c .before .before .before .before .before .before .before .get2 .ensures .is) _ (omega arith) (c .before .before .before .before .before .common2 .ensures) _ _ _ _ (omega arith) (c .before .before .before .get3 .ensures .is) (c .before .before .get4 .ensures .is) (c .before .lesser .ensures) (c .common3 .ensures)
 

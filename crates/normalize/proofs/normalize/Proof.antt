@@ -11,29 +11,23 @@ use Rattle.normalize.proofs.start_fronts.Reads as start-fronts-reads
 use Rattle.normalize.proofs.strip_finals.Reads as strip-finals-reads
 use Rattle.normalize.proofs.strip_steps.Reads as strip-steps-reads
 
--- src/lib.rt:173:5
 start-fronts-requires : tie.Need-start-fronts-requires
 start-fronts-requires c κs = search needs
 
--- src/lib.rt:174:5
 settle-requires : tie.Need-settle-requires
 settle-requires c κs = let st = c .before .before .before .before .before .before in let a = st .args in fronted-start (a .g) (a .work .now) (a .base) (a .n) (st .pre) _ (c .before .before .before .start-fronts .ensures)
 
--- src/lib.rt:175:5
 strip-steps-requires : tie.Need-strip-steps-requires
 strip-steps-requires c κs = let st = c .before .before .before .before .before .before .before .before .before .before in let a = st .args in strips (a .g) _ (a .base) (a .n) (fronted (a .g) (a .work .now) (a .base) (a .n) (st .pre) _ _ (a .work .now) (a .work .now) (c .before .before .before .before .before .before .before .start-fronts .ensures) (c .before .before .before .settle .ensures)) (c .before .before .before .settle .ensures .rests)
 
--- src/lib.rt:176:5
 strip-finals-requires : tie.Need-strip-finals-requires
 strip-finals-requires c κs = let st = c .before .before .before .before .before .before .before .before .before .before .before .before .before .before in let a = st .args in
     let f = fronted (a .g) (a .work .now) (a .base) (a .n) (st .pre) _ _ (a .work .now) (a .work .now) (c .before .before .before .before .before .before .before .before .before .before .before .start-fronts .ensures) (c .before .before .before .before .before .before .before .settle .ensures) in
     (finals-sized (a .g) _ (a .base) (a .n) f (c .before .before .before .before .before .before .before .settle .ensures .rests) _ (c .before .before .before .strip-steps .ensures), (finals-place (a .g) _ (a .base) (a .n) f (c .before .before .before .before .before .before .before .settle .ensures .rests) _ (c .before .before .before .strip-steps .ensures), finals (a .g) _ (a .base) (a .n) f (c .before .before .before .before .before .before .before .settle .ensures .rests) _ (c .before .before .before .strip-steps .ensures)))
 
--- src/lib.rt:169:1
 same-length : tie.Need-same-length
 same-length c = search needs
 
--- src/lib.rt:169:1
 returns : tie.Need-returns
 returns c = let st = c .before .before .before .before .before .before .before .before .before .before .before .before .before .before .before .before .before in let a = st .args in normalized (a .g) (a .work .now) (a .base) (a .n) (st .pre) _ _ _ _ (c .before .before .before .before .before .before .before .before .before .before .before .before .before .before .start-fronts .ensures) (c .before .before .before .before .before .before .before .before .before .before .settle .ensures) (c .before .before .before .before .before .before .strip-steps .ensures) (c .before .before .strip-finals .ensures)
 

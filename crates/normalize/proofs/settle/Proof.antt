@@ -18,30 +18,24 @@ Inv-loop work₀ g base n going₀ work going = Lowered g work₀ work base n ×
 abbrev μ-loop : tie.MeasureT-loop
 μ-loop work₀ g base n going₀ work going = weight g base n work + flag g base n going
 
--- src/lib.rt:98:5
 loop-holds : tie.Need-loop-holds Inv-loop μ-loop
 loop-holds c = let st = c .before in let a = st .args in (lowered-none (a .g) (a .work .now) (a .base) (a .n) (st .pre), λ e. let z : _≡_ {A = ℕ} 0 1 = cc in absurd (omega arith))
 
--- src/lib.rt:99:9
 lower-all-requires : tie.Need-lower-all-requires Inv-loop μ-loop
 lower-all-requires c κs = let st = c .before .before .before .before in let a = st .args in fronted-lowered (a .g) (a .work .now) (a .base) (a .n) (st .pre) _ (c .before .before .loop .inv .0)
 
--- src/lib.rt:98:5
 loop-less : tie.Need-loop-less Inv-loop μ-loop
 loop-less c = let st = c .before .before .before .before .before .before .before in let a = st .args in omega (arith, falls-on (a .g) (a .base) (a .n) _ _ _ _ (c .before .before .lower-all .ensures), ap (flag (a .g) (a .base) (a .n)) (c .before .before .before .before .loop-test .taken))
 
--- src/lib.rt:98:5
 loop-again : tie.Need-loop-again Inv-loop μ-loop
 loop-again c = let st = c .before .before .before .before .before .before .before in let a = st .args in (
   lowered-then (a .g) (a .base) (a .n) _ _ _ (c .before .before .before .before .before .loop .inv .0) (c .before .before .lower-all .ensures .lowered),
   λ e q h b hb. subst (λ (l : List ℕ). Rests (a .g) l (a .base) (a .n) q b) (sym (c .before .before .lower-all .ensures .rests e .0)) (c .before .before .lower-all .ensures .rests e .1 q h b hb),
 )
 
--- src/lib.rt:93:1
 same-length : tie.Need-same-length Inv-loop μ-loop
 same-length c = c .before .loop .inv .0 .kept .long
 
--- src/lib.rt:93:1
 returns : tie.Need-returns Inv-loop μ-loop
 returns c = record { lowered = c .before .loop .inv .0; rests = λ q a h ha. c .before .loop .inv .1 (c .loop-test .left) q h a ha }
 

@@ -16,43 +16,33 @@ Inv-loop work₀ g base n q₀ work q = (q ≤ n) × Starting g work₀ work bas
 abbrev μ-loop : tie.MeasureT-loop
 μ-loop work₀ g base n q₀ work q = n - q
 
--- src/lib.rt:108:5
 loop-holds : tie.Need-loop-holds Inv-loop μ-loop
 loop-holds c = let st = c .before in let a = st .args in (omega arith, starting-none (a .g) (a .work .now) (a .base) (a .n) (st .pre))
 
--- src/lib.rt:109:33
 add-get : tie.Need-add-get Inv-loop μ-loop
 add-get c = search needs
 
--- src/lib.rt:109:13
 get-requires : tie.Need-get-requires Inv-loop μ-loop
 get-requires c κs = search needs
 
--- src/lib.rt:110:22
 add-put : tie.Need-add-put Inv-loop μ-loop
 add-put c = search needs
 
--- src/lib.rt:110:9
 put-requires : tie.Need-put-requires Inv-loop μ-loop
 put-requires c κs = search needs
 
--- src/lib.rt:111:9
 add-q : tie.Need-add-q Inv-loop μ-loop
 add-q c = search needs
 
--- src/lib.rt:108:5
 loop-less : tie.Need-loop-less Inv-loop μ-loop
 loop-less c = search needs
 
--- src/lib.rt:108:5
 loop-again : tie.Need-loop-again Inv-loop μ-loop
 loop-again c = let st = c .before .before .before .before .before .before .before .before .before in let a = st .args in (omega arith, starting-next (a .g) (a .work .now) (a .base) (a .n) (st .pre) _ _ _ _ (omega arith) (c .before .before .before .before .before .before .before .loop .inv .1) (c .before .before .before .before .get .ensures) (c .before .before .put .ensures))
 
--- src/lib.rt:103:1
 same-length : tie.Need-same-length Inv-loop μ-loop
 same-length c = c .before .loop .inv .1 .kept .long
 
--- src/lib.rt:103:1
 returns : tie.Need-returns Inv-loop μ-loop
 returns c = record { kept = c .before .loop .inv .1 .kept; whole = λ q h. c .before .loop .inv .1 .whole q (omega arith) }
 

@@ -17,43 +17,33 @@ Inv-loop work₀ g base n q₀ work q = (q ≤ n) × Finals-stripped g work₀ w
 abbrev μ-loop : tie.MeasureT-loop
 μ-loop work₀ g base n q₀ work q = n - q
 
--- src/lib.rt:161:5
 loop-holds : tie.Need-loop-holds Inv-loop μ-loop
 loop-holds c = let st = c .before in let a = st .args in (omega arith, finals-start (a .g) (a .work .now) (a .base) (a .n) (st .pre .1 .1))
 
--- src/lib.rt:162:32
 add-get : tie.Need-add-get Inv-loop μ-loop
 add-get c = search needs
 
--- src/lib.rt:162:13
 get-requires : tie.Need-get-requires Inv-loop μ-loop
 get-requires c κs = let st = c .before .before .before .before in let a = st .args in let i = finals-inner (a .g) (a .work .now) (a .base) (a .n) (st .pre .1 .1) _ (c .before .before .loop .q) (omega arith) (c .before .before .loop .inv .1) in omega (arith, i .row, i .inside, c .before .before .loop .inv .1 .kept .long)
 
--- src/lib.rt:163:29
 add-drop-front : tie.Need-add-drop-front Inv-loop μ-loop
 add-drop-front c = search needs
 
--- src/lib.rt:163:9
 drop-front-requires : tie.Need-drop-front-requires Inv-loop μ-loop
 drop-front-requires c κs = let st = c .before .before .before .before .before .before in let a = st .args in (search needs, (finals-inner (a .g) (a .work .now) (a .base) (a .n) (st .pre .1 .1) _ (c .before .before .before .before .loop .q) (omega arith) (c .before .before .before .before .loop .inv .1), finals-own (a .g) (a .work .now) (a .base) (a .n) (st .pre .1 .1) _ (c .before .before .before .before .loop .q) (omega arith) (c .before .before .before .before .loop .inv .1) _ (c .before .get .ensures)))
 
--- src/lib.rt:164:9
 add-q : tie.Need-add-q Inv-loop μ-loop
 add-q c = search needs
 
--- src/lib.rt:161:5
 loop-less : tie.Need-loop-less Inv-loop μ-loop
 loop-less c = search needs
 
--- src/lib.rt:161:5
 loop-again : tie.Need-loop-again Inv-loop μ-loop
 loop-again c = let st = c .before .before .before .before .before .before .before .before .before in let a = st .args in (omega arith, finals-next (a .g) (a .work .now) (a .base) (a .n) (st .pre .1 .1) _ (c .before .before .before .before .before .before .before .loop .q) (omega arith) (c .before .before .before .before .before .before .before .loop .inv .1) _ _ (c .before .before .before .before .get .ensures) (c .before .before .drop-front .ensures))
 
--- src/lib.rt:155:1
 same-length : tie.Need-same-length Inv-loop μ-loop
 same-length c = c .before .loop .inv .1 .kept .long
 
--- src/lib.rt:155:1
 returns : tie.Need-returns Inv-loop μ-loop
 returns c = let a = c .before .before .before .args in let e : c .before .loop .q ≡ a .n = omega arith in subst (λ (i : ℕ). Finals-stripped (a .g) (a .work .now) (c .before .loop .work) (a .base) i) e (c .before .loop .inv .1)
 

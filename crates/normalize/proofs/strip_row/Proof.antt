@@ -16,31 +16,24 @@ Inv-loop work₀ g base q tags a₀ work a = (a ≤ g .tags) × Row-stripped g w
 abbrev μ-loop : tie.MeasureT-loop
 μ-loop work₀ g base q tags a₀ work a = g .tags - a
 
--- src/lib.rt:138:5
 loop-holds : tie.Need-loop-holds Inv-loop μ-loop
 loop-holds c = let st = c .before in let a = st .args in (omega arith, row-start (a .g) (a .work .now) (a .base) (a .q) (st .pre))
 
--- src/lib.rt:139:9
 strip-step-requires : tie.Need-strip-step-requires Inv-loop μ-loop
 strip-step-requires c κs = let st = c .before .before .before .before in let a = st .args in row-strip (a .g) (a .work .now) (a .base) (a .q) (st .pre) _ (c .before .before .loop .a) (omega arith) (c .before .before .loop .inv .1)
 
--- src/lib.rt:140:9
 add-a : tie.Need-add-a Inv-loop μ-loop
 add-a c = search needs
 
--- src/lib.rt:138:5
 loop-less : tie.Need-loop-less Inv-loop μ-loop
 loop-less c = search needs
 
--- src/lib.rt:138:5
 loop-again : tie.Need-loop-again Inv-loop μ-loop
 loop-again c = let st = c .before .before .before .before .before .before .before in let a = st .args in (omega arith, row-next (a .g) (a .work .now) (a .base) (a .q) (st .pre) _ (c .before .before .before .before .before .loop .a) (omega arith) (c .before .before .before .before .before .loop .inv .1) _ (c .before .before .strip-step .ensures))
 
--- src/lib.rt:132:1
 same-length : tie.Need-same-length Inv-loop μ-loop
 same-length c = c .before .loop .inv .1 .kept .long
 
--- src/lib.rt:132:1
 returns : tie.Need-returns Inv-loop μ-loop
 returns c = let a = c .before .before .before .args in let e : c .before .loop .a ≡ a .g .tags = omega arith in subst (λ (i : ℕ). Row-stripped (a .g) (a .work .now) (c .before .loop .work) (a .base) (a .q) i) e (c .before .loop .inv .1)
 

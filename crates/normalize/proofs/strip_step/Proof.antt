@@ -14,99 +14,76 @@ use Rattle.workspace.proofs.clear.Reads as clear-reads
 use Rattle.workspace.proofs.drop_front.Reads as drop-front-reads
 use Rattle.workspace.proofs.get.Reads as get-reads
 
--- src/lib.rt:119:28
 add-get : tie.Need-add-get
 add-get c = search needs
 
--- src/lib.rt:119:9
 get-requires : tie.Need-get-requires
 get-requires c κs = search needs
 
--- src/lib.rt:120:29
 add-get-2 : tie.Need-add-get-2
 add-get-2 c = search needs
 
--- src/lib.rt:120:9
 get-requires-2 : tie.Need-get-requires-2
 get-requires-2 c κs = search needs
 
--- src/lib.rt:121:29
 add-get-3 : tie.Need-add-get-3
 add-get-3 c = search needs
 
--- src/lib.rt:121:9
 get-requires-3 : tie.Need-get-requires-3
 get-requires-3 c κs = search needs
 
--- src/lib.rt:122:30
 add-get-4 : tie.Need-add-get-4
 add-get-4 c = search needs
 
--- src/lib.rt:122:9
 get-requires-4 : tie.Need-get-requires-4
 get-requires-4 c κs = search needs
 
--- src/lib.rt:124:29
 add-drop-front : tie.Need-add-drop-front
 add-drop-front c = search needs
 
--- src/lib.rt:124:9
 drop-front-requires : tie.Need-drop-front-requires
 drop-front-requires c κs = search needs
 
--- src/lib.rt:125:25
 add-append : tie.Need-add-append
 add-append c = search needs
 
--- src/lib.rt:125:59
 add-append-2 : tie.Need-add-append-2
 add-append-2 c = search needs
 
--- src/lib.rt:125:9
 append-requires : tie.Need-append-requires
 append-requires c κs = let st = c .before .before .before .before .before .before .before .before .before .before .before .before .before .before .before in let a = st .args in
     let i = got-to (a .g) (a .work .now) (a .base) (a .q) (a .a) (st .pre) _ _ _ _ (c .before .before .before .before .before .before .before .before .before .before .before .before .get .ensures .is) (c .before .before .before .before .before .before .before .before .before .before .get2 .ensures .is) (c .before .before .before .before .before .before .before .before .get3 .ensures .is) (c .before .before .before .before .before .before .get4 .ensures .is) _ (c .before .before .before .drop-front .ensures .kept) in
     (search needs, (i .0, ((omega arith, i .1, omega (arith, i .3, c .before .before .before .drop-front .ensures .size, length-drop (c .before .before .before .before .before .before .before .before .before .before .before .before .get .result) (word (a .g) (a .work .now) (a .base + a .q) (a .a) 1), word-length (a .g) (a .work .now) (a .base + a .q) (a .a) 1, c .before .before .before .before .before .before .before .before .before .before .get2 .ensures .is)), (st .pre .from .row, st .pre .from .cell, λ e d. omega (arith, st .pre .tag)))))
 
--- src/lib.rt:126:9
 same-length : tie.Need-same-length
 same-length c = search needs
 
--- src/lib.rt:126:9
 returns : tie.Need-returns
 returns c = let st = c .before .before .before .before .before .before .before .before .before .before .before .before .before .before .before .before .before .before in let a = st .args in got-in (a .g) (a .work .now) (a .base) (a .q) (a .a) (st .pre) _ _ _ _ (c .before .before .before .before .before .before .before .before .before .before .before .before .before .before .before .get .ensures .is) (c .before .before .before .before .before .before .before .before .before .before .before .before .before .get2 .ensures .is) (c .before .before .before .before .before .before .before .before .before .before .before .get3 .ensures .is) (c .before .before .before .before .before .before .before .before .before .get4 .ensures .is) _ _ (c .before .before .before .before .before .before .before .before .if1 .taken) (c .before .before .before .before .before .before .drop-front .ensures) (c .before .before .append .ensures)
 
--- src/lib.rt:128:20
 add-clear : tie.Need-add-clear
 add-clear c = search needs
 
--- src/lib.rt:128:5
 clear-requires : tie.Need-clear-requires
 clear-requires c κs = search needs
 
--- src/lib.rt:129:21
 add-append-3 : tie.Need-add-append-3
 add-append-3 c = search needs
 
--- src/lib.rt:129:45
 sub-append : tie.Need-sub-append
 sub-append c = search needs
 
--- src/lib.rt:129:64
 add-append-4 : tie.Need-add-append-4
 add-append-4 c = search needs
 
--- src/lib.rt:129:5
 append-requires-2 : tie.Need-append-requires-2
 append-requires-2 c κs = let st = c .before .before .before .before .before .before .before .before .before .before .before .before .before .before .before in let a = st .args in
     let i = got-to (a .g) (a .work .now) (a .base) (a .q) (a .a) (st .pre) _ _ _ _ (c .before .before .before .before .before .before .before .before .before .before .before .before .get .ensures .is) (c .before .before .before .before .before .before .before .before .before .before .get2 .ensures .is) (c .before .before .before .before .before .before .before .before .get3 .ensures .is) (c .before .before .before .before .before .before .get4 .ensures .is) _ (c .before .before .before .clear .ensures .kept) in
     (search needs, (i .0, ((omega (arith, i .2), i .1, omega (arith, i .2, i .3, c .before .before .before .clear .ensures .size)), (st .pre .from .row, st .pre .from .cell, λ e d. omega (arith, st .pre .tag)))))
 
--- src/lib.rt:115:1
 same-length-2 : tie.Need-same-length-2
 same-length-2 c = search needs
 
--- src/lib.rt:115:1
 returns-2 : tie.Need-returns-2
 returns-2 c = let st = c .before .before .before .before .before .before .before .before .before .before .before .before .before .before .before .before .before .before in let a = st .args in got-past (a .g) (a .work .now) (a .base) (a .q) (a .a) (st .pre) _ _ _ _ (c .before .before .before .before .before .before .before .before .before .before .before .before .before .before .before .get .ensures .is) (c .before .before .before .before .before .before .before .before .before .before .before .before .before .get2 .ensures .is) (c .before .before .before .before .before .before .before .before .before .before .before .get3 .ensures .is) (c .before .before .before .before .before .before .before .before .before .get4 .ensures .is) _ _ (omega arith) (c .before .before .before .before .before .before .clear .ensures) (c .before .before .append2 .ensures)
 

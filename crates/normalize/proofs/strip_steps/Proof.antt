@@ -16,31 +16,24 @@ Inv-loop work₀ g base n q₀ work q = (q ≤ n) × Steps-stripped g work₀ wo
 abbrev μ-loop : tie.MeasureT-loop
 μ-loop work₀ g base n q₀ work q = n - q
 
--- src/lib.rt:149:5
 loop-holds : tie.Need-loop-holds Inv-loop μ-loop
 loop-holds c = let st = c .before in let a = st .args in (omega arith, steps-start (a .g) (a .work .now) (a .base) (a .n) (st .pre))
 
--- src/lib.rt:150:9
 strip-row-requires : tie.Need-strip-row-requires Inv-loop μ-loop
 strip-row-requires c κs = let st = c .before .before .before .before in let a = st .args in steps-strip (a .g) (a .work .now) (a .base) (a .n) (st .pre) _ (c .before .before .loop .q) (omega arith) (c .before .before .loop .inv .1)
 
--- src/lib.rt:151:9
 add-q : tie.Need-add-q Inv-loop μ-loop
 add-q c = search needs
 
--- src/lib.rt:149:5
 loop-less : tie.Need-loop-less Inv-loop μ-loop
 loop-less c = search needs
 
--- src/lib.rt:149:5
 loop-again : tie.Need-loop-again Inv-loop μ-loop
 loop-again c = let st = c .before .before .before .before .before .before .before in let a = st .args in (omega arith, steps-next (a .g) (a .work .now) (a .base) (a .n) (st .pre) _ (c .before .before .before .before .before .loop .q) (omega arith) (c .before .before .before .before .before .loop .inv .1) _ (c .before .before .strip-row .ensures))
 
--- src/lib.rt:144:1
 same-length : tie.Need-same-length Inv-loop μ-loop
 same-length c = c .before .loop .inv .1 .kept .long
 
--- src/lib.rt:144:1
 returns : tie.Need-returns Inv-loop μ-loop
 returns c = let a = c .before .before .before .args in let e : c .before .loop .q ≡ a .n = omega arith in subst (λ (i : ℕ). Steps-stripped (a .g) (a .work .now) (c .before .loop .work) (a .base) i) e (c .before .loop .inv .1)
 

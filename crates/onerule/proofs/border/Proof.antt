@@ -17,44 +17,35 @@ Inv-loop u j a s₀ s = (s ≤ j + 1) × (overlap u (matched u j a) ≡ overlap 
 abbrev μ-loop : tie.MeasureT-loop
 μ-loop u j a s₀ s = j + 1 - s
 
--- src/lib.rt:46:5
 loop-holds : tie.Need-loop-holds Inv-loop μ-loop
 loop-holds c = (omega arith, refl)
 
--- src/lib.rt:47:12
 overlaps-requires : tie.Need-overlaps-requires Inv-loop μ-loop
 overlaps-requires c κs = search needs
 
--- src/lib.rt:48:20
 add-result : tie.Need-add-result Inv-loop μ-loop
 add-result c = search needs
 
--- src/lib.rt:48:20
 sub-result : tie.Need-sub-result Inv-loop μ-loop
 sub-result c = search needs
 
--- src/lib.rt:48:13
 returns : tie.Need-returns Inv-loop μ-loop
 returns c = let st = c .before .before .before .before .before in
     let t = matched (st .args .u .now) (st .args .j) (st .args .a) in
     let long = matched-length (st .args .u .now) (st .args .j) (st .args .a) (st .pre) in
     omega (arith, long, c .before .before .before .loop .inv .1, overlap-hit (st .args .u .now) t (c .before .before .before .loop .s) (omega (arith, long)) (sym (c .before .overlaps .ensures) ∙ c .if1 .taken))
 
--- src/lib.rt:50:9
 add-s : tie.Need-add-s Inv-loop μ-loop
 add-s c = search needs
 
--- src/lib.rt:46:5
 loop-less : tie.Need-loop-less Inv-loop μ-loop
 loop-less c = search needs
 
--- src/lib.rt:46:5
 loop-again : tie.Need-loop-again Inv-loop μ-loop
 loop-again c = let st = c .before .before .before .before .before in
     let t = matched (st .args .u .now) (st .args .j) (st .args .a) in
     (omega arith, c .before .before .before .loop .inv .1 ∙ overlap-miss (st .args .u .now) t (c .before .before .before .loop .s) (omega (arith, matched-length (st .args .u .now) (st .args .j) (st .args .a) (st .pre))) (sym (c .before .overlaps .ensures) ∙ c .if1 .left))
 
--- src/lib.rt:41:1
 returns-2 : tie.Need-returns-2 Inv-loop μ-loop
 returns-2 c = let st = c .before .before .before in
     let t = matched (st .args .u .now) (st .args .j) (st .args .a) in

@@ -7,15 +7,12 @@ use Rattle.onerule.proofs.next_of.Reads as reads
 use Rattle.onerule.proofs.next_of.Lts as lts
 use Rattle.onerule.proofs.border.Reads as border-reads
 
--- src/lib.rt:60:9
 returns : tie.Need-returns
 returns c = let a = c .before .before .args in goes-end (a .u .now) (a .place) (a .tag) (a .j) (a .a) (c .if1 .taken)
 
--- src/lib.rt:62:5
 border-requires : tie.Need-border-requires
 border-requires c κs = search needs
 
--- src/lib.rt:55:1
 returns-2 : tie.Need-returns-2
 returns-2 c = let a = c .before .before .before .args in goes-overlap (a .u .now) (a .place) (a .tag) (a .j) (a .a) _ (omega arith) (c .border .ensures)
 

@@ -18,51 +18,39 @@ Inv-loop u j a s i₀ i = (s + i ≤ j) × (prefix (drop s (matched u j a)) u �
 abbrev μ-loop : tie.MeasureT-loop
 μ-loop u j a s i₀ i = j - i
 
--- src/lib.rt:31:5
 loop-holds : tie.Need-loop-holds Inv-loop μ-loop
 loop-holds c = let st = c .before in (omega arith, match-start (st .args .u .now) (st .args .j) (st .args .a) (st .pre .1) (st .args .s))
 
--- src/lib.rt:31:11
 add-loop : tie.Need-add-loop Inv-loop μ-loop
 add-loop c = search needs
 
--- src/lib.rt:32:14
 add-if1 : tie.Need-add-if1 Inv-loop μ-loop
 add-if1 c = search needs
 
--- src/lib.rt:32:12
 shared-slice-read-if1 : tie.Need-shared-slice-read-if1 Inv-loop μ-loop
 shared-slice-read-if1 c = search needs
 
--- src/lib.rt:32:24
 shared-slice-read-if1-2 : tie.Need-shared-slice-read-if1-2 Inv-loop μ-loop
 shared-slice-read-if1-2 c = search needs
 
--- src/lib.rt:33:13
 returns : tie.Need-returns Inv-loop μ-loop
 returns c = let st = c .before .before .before .before .before .before in match-other (st .args .u .now) (st .args .j) (st .args .a) (st .pre .1) (st .args .s) (c .before .before .before .before .loop .i) (c .before .before .before .before .loop .inv .1) (omega arith) (c .if1 .taken)
 
--- src/lib.rt:35:9
 add-i : tie.Need-add-i Inv-loop μ-loop
 add-i c = search needs
 
--- src/lib.rt:31:5
 loop-less : tie.Need-loop-less Inv-loop μ-loop
 loop-less c = search needs
 
--- src/lib.rt:31:5
 loop-again : tie.Need-loop-again Inv-loop μ-loop
 loop-again c = let st = c .before .before .before .before .before .before in (omega arith, match-next (st .args .u .now) (st .args .j) (st .args .a) (st .pre .1) (st .args .s) (c .before .before .before .before .loop .i) (c .before .before .before .before .loop .inv .1) (omega arith) (c .if1 .left))
 
--- src/lib.rt:37:10
 shared-slice-read-wide : tie.Need-shared-slice-read-wide Inv-loop μ-loop
 shared-slice-read-wide c = search needs
 
--- src/lib.rt:37:5
 wide-requires : tie.Need-wide-requires Inv-loop μ-loop
 wide-requires c κs = search needs
 
--- src/lib.rt:26:1
 returns-2 : tie.Need-returns-2 Inv-loop μ-loop
 returns-2 c = let st = c .before .before .before .before .before in ap (λ x. eqb x (st .args .a)) (c .wide .ensures .0) ∙ match-last (st .args .u .now) (st .args .j) (st .args .a) (st .pre .1) (st .args .s) (c .before .before .before .loop .i) (c .before .before .before .loop .inv .1) (omega arith)
 

@@ -15,39 +15,30 @@ Inv-loop work₀ g r c s u from to i₀ work i = Appending g work₀ work u from
 abbrev μ-loop : tie.MeasureT-loop
 μ-loop work₀ g r c s u from to i₀ work i = to - i
 
--- src/lib.rt:73:5
 loop-holds : tie.Need-loop-holds Inv-loop μ-loop
 loop-holds c = let st = c .before .before in let a = st .args in appending-start (a .g) (a .work .now) (a .u .now) _ _ _ _ _ (st .pre .1 .1 .1) (st .pre .1 .1 .0)
 
--- src/lib.rt:74:37
 shared-slice-read-wide : tie.Need-shared-slice-read-wide Inv-loop μ-loop
 shared-slice-read-wide c = search needs
 
--- src/lib.rt:74:32
 wide-requires : tie.Need-wide-requires Inv-loop μ-loop
 wide-requires c κs = search needs
 
--- src/lib.rt:74:9
 push-requires : tie.Need-push-requires Inv-loop μ-loop
 push-requires c κs = search needs
 
--- src/lib.rt:75:9
 add-i : tie.Need-add-i Inv-loop μ-loop
 add-i c = search needs
 
--- src/lib.rt:73:5
 loop-less : tie.Need-loop-less Inv-loop μ-loop
 loop-less c = search needs
 
--- src/lib.rt:73:5
 loop-again : tie.Need-loop-again Inv-loop μ-loop
 loop-again c = let st = c .before .before .before .before .before .before .before .before .before .before in let a = st .args in appending-next (a .g) (a .work .now) (a .u .now) _ _ _ _ _ (st .pre .1 .1 .1) _ _ _ _ (c .before .before .before .before .before .before .before .loop .inv) (omega arith) (c .before .before .before .wide .ensures .0) (c .before .before .push .ensures)
 
--- src/lib.rt:66:1
 same-length : tie.Need-same-length Inv-loop μ-loop
 same-length c = c .before .loop .inv .kept .long
 
--- src/lib.rt:66:1
 returns : tie.Need-returns Inv-loop μ-loop
 returns c = let st = c .before .before .before .before in let a = st .args in appending-end (a .g) (a .work .now) (a .u .now) _ _ _ _ _ (st .pre .1 .1 .1) _ _ (c .before .loop .inv) (omega arith)
 

@@ -12,31 +12,24 @@ use Rattle.onerule.proofs.write_final.Lts as lts
 use Rattle.onerule.proofs.push_part.Reads as push-part-reads
 use Rattle.workspace.proofs.clear.Reads as clear-reads
 
--- src/lib.rt:148:5
 clear-requires : tie.Need-clear-requires
 clear-requires c κs = search needs
 
--- src/lib.rt:150:9
 same-length : tie.Need-same-length
 same-length c = search needs
 
--- src/lib.rt:150:9
 returns : tie.Need-returns
 returns c = let a = c .before .before .before .before .before .before .before .args in written-is (a .g) _ _ _ _ _ _ _ (held-none (a .u .now) (a .place) (a .tag) (a .j) (c .if1 .taken)) (c .before .before .before .clear .ensures)
 
--- src/lib.rt:152:41
 lesser-requires : tie.Need-lesser-requires
 lesser-requires c κs = search needs
 
--- src/lib.rt:152:5
 push-part-requires : tie.Need-push-part-requires
 push-part-requires c κs = search needs
 
--- src/lib.rt:143:1
 same-length-2 : tie.Need-same-length-2
 same-length-2 c = search needs
 
--- src/lib.rt:143:1
 returns-2 : tie.Need-returns-2
 returns-2 c = let a = c .before .before .before .before .before .before .before .before .before .before .before .before .args in
     written-is (a .g) _ _ _ _ _ _ _ (ap (λ (i : ℕ). part i (a .j) (a .u .now)) (c .before .before .before .lesser .ensures) ∙ held-lesser (a .u .now) (a .place) (a .tag) (a .j) (omega arith))

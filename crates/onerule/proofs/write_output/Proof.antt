@@ -16,91 +16,70 @@ use Rattle.words.proofs.wide.Reads as wide-reads
 use Rattle.workspace.proofs.clear.Reads as clear-reads
 use Rattle.workspace.proofs.push.Reads as push-reads
 
--- src/lib.rt:102:5
 clear-requires : tie.Need-clear-requires
 clear-requires c κs = search needs
 
--- src/lib.rt:104:9
 push-requires : tie.Need-push-requires
 push-requires c κs = search needs
 
--- src/lib.rt:105:9
 same-length : tie.Need-same-length
 same-length c = search needs
 
--- src/lib.rt:105:9
 returns : tie.Need-returns
 returns c = let a = c .before .before .before .before .before .before .before .before .before .before .before .args in written-is (a .g) _ _ _ _ _ _ _ (says-end (a .u .now) (a .place) (a .tag) (a .j) (a .a) (c .before .before .before .before .if1 .taken)) (written-more (a .g) _ _ _ _ _ _ _ _ (c .before .before .before .before .before .before .before .clear .ensures) (c .before .before .push .ensures))
 
--- src/lib.rt:108:32
 wide-requires : tie.Need-wide-requires
 wide-requires c κs = search needs
 
--- src/lib.rt:108:9
 push-requires-2 : tie.Need-push-requires-2
 push-requires-2 c κs = search needs
 
--- src/lib.rt:109:40
 add-push-part : tie.Need-add-push-part
 add-push-part c = search needs
 
--- src/lib.rt:109:9
 push-part-requires : tie.Need-push-part-requires
 push-part-requires c κs = let a = c .before .before .before .before .before .before .before .before .before .before .before .before .before .before .args in omega (arith, more-size (a .g) _ _ _ _ _ _ (c .before .before .before .push2 .ensures))
 
--- src/lib.rt:110:9
 same-length-2 : tie.Need-same-length-2
 same-length-2 c = search needs
 
--- src/lib.rt:110:9
 returns-2 : tie.Need-returns-2
 returns-2 c = let a = c .before .before .before .before .before .before .before .before .before .before .before .before .before .before .before .before .before .args in
     written-is (a .g) _ _ _ _ _ _ _ (ap {B = List ℕ} (λ (x : ℕ). x ∷ part (a .place + 1) (length (a .u .now)) (a .u .now)) (c .before .before .before .before .before .before .before .wide .ensures .0) ∙ says-match (a .u .now) (a .place) (a .tag) (a .j) (a .a) (a .next) (omega arith) (c .before .before .before .before .before .before .before .before .before .before .before .before .before .before .before .before .before .pre .1 .1) (c .before .before .before .before .before .before .before .before .before .before .before .before .before .before .before .before .before .pre .0 .place-inside) (c .before .before .before .before .before .before .before .before .before .if2 .taken))
     (written-more (a .g) _ _ _ _ _ _ _ _ (written-more (a .g) _ _ _ _ _ _ _ _ (c .before .before .before .before .before .before .before .before .before .before .before .before .before .clear .ensures) (c .before .before .before .before .before .before .push2 .ensures)) (c .before .before .push-part .ensures))
 
--- src/lib.rt:113:56
 add-push-part-2 : tie.Need-add-push-part-2
 add-push-part-2 c = search needs
 
--- src/lib.rt:113:56
 sub-push-part : tie.Need-sub-push-part
 sub-push-part c = let a = c .before .before .before .before .before .before .before .before .before .before .args in omega (arith, goes-le (a .u .now) (a .place) (a .tag) (a .j) (a .a) (omega arith))
 
--- src/lib.rt:113:47
 add-push-part-3 : tie.Need-add-push-part-3
 add-push-part-3 c = search needs
 
--- src/lib.rt:113:9
 push-part-requires-2 : tie.Need-push-part-requires-2
 push-part-requires-2 c κs = let a = c .before .before .before .before .before .before .before .before .before .before .args in omega (arith, goes-le (a .u .now) (a .place) (a .tag) (a .j) (a .a) (omega arith))
 
--- src/lib.rt:114:9
 same-length-3 : tie.Need-same-length-3
 same-length-3 c = search needs
 
--- src/lib.rt:114:9
 returns-3 : tie.Need-returns-3
 returns-3 c = let a = c .before .before .before .before .before .before .before .before .before .before .before .before .before .args in
     written-is (a .g) _ _ _ _ _ _ _ (says-short (a .u .now) (a .place) (a .tag) (a .j) (a .a) (a .next) (omega arith) (c .before .before .before .before .before .before .before .before .before .before .before .before .before .pre .1 .1) (c .before .before .before .before .before .if2 .left) (c .before .before .before .before .if3 .taken))
     (written-more (a .g) _ _ _ _ _ _ _ _ (c .before .before .before .before .before .before .before .before .before .clear .ensures) (c .before .before .push-part2 .ensures))
 
--- src/lib.rt:116:36
 lesser-requires : tie.Need-lesser-requires
 lesser-requires c κs = search needs
 
--- src/lib.rt:116:5
 push-part-requires-3 : tie.Need-push-part-requires-3
 push-part-requires-3 c κs = search needs
 
--- src/lib.rt:117:5
 push-requires-3 : tie.Need-push-requires-3
 push-requires-3 c κs = let a = c .before .before .before .before .before .before .before .before .before .before .before .before .before .before .before .args in omega (arith, more-size (a .g) _ _ _ _ _ _ (c .before .before .before .push-part3 .ensures), part-length (a .u .now) (c .before .before .before .before .lesser .result) (a .j) (omega arith))
 
--- src/lib.rt:86:1
 same-length-4 : tie.Need-same-length-4
 same-length-4 c = search needs
 
--- src/lib.rt:86:1
 returns-4 : tie.Need-returns-4
 returns-4 c = let a = c .before .before .before .before .before .before .before .before .before .before .before .before .before .before .before .before .before .before .args in
     written-is (a .g) _ _ _ _ _ _ _ (ap (λ (i : ℕ). part i (a .j) (a .u .now) ++ (a .a ∷ [])) (c .before .before .before .before .before .before .before .lesser .ensures) ∙ says-back-all (a .u .now) (a .place) (a .tag) (a .j) (a .a) (a .next) (omega arith) (c .before .before .before .before .before .before .before .before .before .before .before .before .before .before .before .before .before .before .pre .1 .1) (c .before .before .before .before .before .before .before .before .before .before .if2 .left) (omega arith))

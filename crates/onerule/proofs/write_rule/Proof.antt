@@ -19,41 +19,33 @@ Inv-loop work₀ g base u place tag j₀ work j = (j ≤ length u + 1) × Fillin
 abbrev μ-loop : tie.MeasureT-loop
 μ-loop work₀ g base u place tag j₀ work j = length u + 1 - j
 
--- src/lib.rt:172:5
 loop-holds : tie.Need-loop-holds Inv-loop μ-loop
 loop-holds c = let st = c .before .before in let a = st .args in (
   omega arith,
   filling-start (a .g) (a .base) _ (oneRule (rule (a .u .now) (a .place) (a .tag))) (roomy-rule (a .u .now) (a .place) (a .tag) (a .g) (st .pre .0 .place-inside) (st .pre .0 .deep)) (omega arith) (a .work .now),
 )
 
--- src/lib.rt:173:30
 add-write-state : tie.Need-add-write-state Inv-loop μ-loop
 add-write-state c = search needs
 
--- src/lib.rt:173:9
 write-state-requires : tie.Need-write-state-requires Inv-loop μ-loop
 write-state-requires c κs = search needs
 
--- src/lib.rt:174:9
 add-j : tie.Need-add-j Inv-loop μ-loop
 add-j c = search needs
 
--- src/lib.rt:172:5
 loop-less : tie.Need-loop-less Inv-loop μ-loop
 loop-less c = search needs
 
--- src/lib.rt:172:5
 loop-again : tie.Need-loop-again Inv-loop μ-loop
 loop-again c = let st = c .before .before .before .before .before .before .before .before in let a = st .args in (
   omega arith,
   filling-next (a .g) (a .base) (length (a .u .now) + 1) (oneRule (rule (a .u .now) (a .place) (a .tag))) (roomy-rule (a .u .now) (a .place) (a .tag) (a .g) (st .pre .0 .place-inside) (st .pre .0 .deep)) (omega arith) _ _ _ _ (omega arith) (c .before .before .before .before .before .loop .inv .1) (c .before .before .write-state .ensures),
 )
 
--- src/lib.rt:165:1
 same-length : tie.Need-same-length Inv-loop μ-loop
 same-length c = c .before .loop .inv .1 .kept .long
 
--- src/lib.rt:165:1
 returns : tie.Need-returns Inv-loop μ-loop
 returns c = let st = c .before .before .before .before in let a = st .args in (
   holds-table (a .g) (c .before .loop .work) (a .base) (oneRule (rule (a .u .now) (a .place) (a .tag))) (omega arith)

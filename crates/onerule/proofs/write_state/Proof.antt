@@ -11,19 +11,15 @@ use Rattle.onerule.proofs.write_state.Lts as lts
 use Rattle.onerule.proofs.write_final.Reads as write-final-reads
 use Rattle.onerule.proofs.write_steps.Reads as write-steps-reads
 
--- src/lib.rt:160:5
 write-steps-requires : tie.Need-write-steps-requires
 write-steps-requires c κs = search needs
 
--- src/lib.rt:161:5
 write-final-requires : tie.Need-write-final-requires
 write-final-requires c κs = search needs
 
--- src/lib.rt:155:1
 same-length : tie.Need-same-length
 same-length c = search needs
 
--- src/lib.rt:155:1
 returns : tie.Need-returns
 returns c = let st = c .before .before .before .before .before .before .before .before .before .before in let a = st .args in
     stepping-end (a .g) (a .r) (oneRule (rule (a .u .now) (a .place) (a .tag))) (a .j) (omega arith)

@@ -10,23 +10,18 @@ use Rattle.onerule.proofs.next_of.Reads as next-of-reads
 use Rattle.onerule.proofs.write_output.Reads as write-output-reads
 use Rattle.workspace.proofs.put.Reads as put-reads
 
--- src/lib.rt:125:9
 next-of-requires : tie.Need-next-of-requires
 next-of-requires c κs = search needs
 
--- src/lib.rt:126:5
 put-requires : tie.Need-put-requires
 put-requires c κs = let a = c .before .before .before .before .args in omega (arith, goes-below (a .u .now) (a .place) (a .tag) (a .j) (a .a) (omega arith))
 
--- src/lib.rt:127:5
 write-output-requires : tie.Need-write-output-requires
 write-output-requires c κs = search needs
 
--- src/lib.rt:120:1
 same-length : tie.Need-same-length
 same-length c = search needs
 
--- src/lib.rt:120:1
 returns : tie.Need-returns
 returns c = let a = c .before .before .before .before .before .before .before .before .before .before .before .args in rw (← c .before .before .before .before .before .before .before .before .next-of .ensures) (stepped (a .g) _ _ _ _ _ _ _ (omega arith) (omega arith) (c .before .before .before .before .before .before .put .ensures) (c .before .before .write-output .ensures))
 

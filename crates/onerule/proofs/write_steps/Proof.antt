@@ -19,37 +19,30 @@ Inv-loop work₀ g r u place tag j tags a₀ work a = (a ≤ g .tags) × Steppin
 abbrev μ-loop : tie.MeasureT-loop
 μ-loop work₀ g r u place tag j tags a₀ work a = tags - a
 
--- src/lib.rt:137:5
 loop-holds : tie.Need-loop-holds Inv-loop μ-loop
 loop-holds c = let st = c .before .before in let a = st .args in (
   omega arith,
   stepping-start (a .g) (a .r) (oneRule (rule (a .u .now) (a .place) (a .tag))) (a .j) (omega arith) (roomy-rule (a .u .now) (a .place) (a .tag) (a .g) (st .pre .0 .place-inside) (st .pre .0 .deep)) (a .work .now),
 )
 
--- src/lib.rt:138:9
 write-step-requires : tie.Need-write-step-requires Inv-loop μ-loop
 write-step-requires c κs = search needs
 
--- src/lib.rt:139:9
 add-a : tie.Need-add-a Inv-loop μ-loop
 add-a c = search needs
 
--- src/lib.rt:137:5
 loop-less : tie.Need-loop-less Inv-loop μ-loop
 loop-less c = search needs
 
--- src/lib.rt:137:5
 loop-again : tie.Need-loop-again Inv-loop μ-loop
 loop-again c = let st = c .before .before .before .before .before .before .before .before in let a = st .args in (
   omega arith,
   stepping-next (a .g) (a .r) (oneRule (rule (a .u .now) (a .place) (a .tag))) (a .j) (omega arith) (roomy-rule (a .u .now) (a .place) (a .tag) (a .g) (st .pre .0 .place-inside) (st .pre .0 .deep)) _ _ _ _ (omega arith) (c .before .before .before .before .before .loop .inv .1) (c .before .before .write-step .ensures),
 )
 
--- src/lib.rt:130:1
 same-length : tie.Need-same-length Inv-loop μ-loop
 same-length c = c .before .loop .inv .1 .kept .long
 
--- src/lib.rt:130:1
 returns : tie.Need-returns Inv-loop μ-loop
 returns c = let a = c .before .before .before .before .args in let e : c .before .loop .a ≡ a .g .tags = omega arith in
     subst (λ (n : ℕ). Stepping (a .g) (a .work .now) (c .before .loop .work) (a .r) (oneRule (rule (a .u .now) (a .place) (a .tag))) (a .j) n) e (c .before .loop .inv .1)

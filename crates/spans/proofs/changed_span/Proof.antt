@@ -11,57 +11,46 @@ use Rattle.spans.proofs.changed_span.Lts as lts
 use Rattle.spans.proofs.first_difference.Reads as first-difference-reads
 use Rattle.spans.proofs.last_difference.Reads as last-difference-reads
 
--- src/lib.rt:42:16
 sub-result : tie.Need-sub-result
 sub-result c = search needs
 
--- src/lib.rt:42:16
 part-result-start : tie.Need-part-result-start
 part-result-start c = search needs
 
--- src/lib.rt:42:16
 part-result-end : tie.Need-part-result-end
 part-result-end c = search needs
 
--- src/lib.rt:42:9
 returns : tie.Need-returns
 returns c =
     let a = c .before .before .before .before .args in
     is-part (a .sentence) (a .result) _ 0 0 0 0 (span-unequal (a .sentence .now) (a .result .now) (search needs)) refl refl refl refl refl
 
--- src/lib.rt:44:9
 last-difference-requires : tie.Need-last-difference-requires
 last-difference-requires c κs = search needs
 
--- src/lib.rt:46:9
 returns-2 : tie.Need-returns-2
 returns-2 c =
     let a = c .before .before .before .before .before .args in
     is-whole (a .sentence) (a .result) _ (span-whole (a .sentence .now) (a .result .now) (search needs) (sym (c .before .last-difference .ensures) ∙ c .if2 .taken)) refl
 
--- src/lib.rt:48:9
 first-difference-requires : tie.Need-first-difference-requires
 first-difference-requires c κs = search needs
 
--- src/lib.rt:49:5
 sub-result-2 : tie.Need-sub-result-2
 sub-result-2 c =
     let a = c .before .before .before .before .before .before .args in
     omega (arith, span-inside (a .sentence .now) (a .result .now) (search needs) (λ e. c .before .if2 .left (c .before .before .last-difference .ensures ∙ e)) .0)
 
--- src/lib.rt:49:5
 part-result-start-2 : tie.Need-part-result-start-2
 part-result-start-2 c =
     let a = c .before .before .before .before .before .before .args in
     omega (arith, span-inside (a .sentence .now) (a .result .now) (search needs) (λ e. c .before .if2 .left (c .before .before .last-difference .ensures ∙ e)) .0)
 
--- src/lib.rt:49:5
 part-result-end-2 : tie.Need-part-result-end-2
 part-result-end-2 c =
     let a = c .before .before .before .before .before .before .args in
     omega (arith, span-inside (a .sentence .now) (a .result .now) (search needs) (λ e. c .before .if2 .left (c .before .before .last-difference .ensures ∙ e)) .1)
 
--- src/lib.rt:38:1
 returns-3 : tie.Need-returns-3
 returns-3 c =
     let a = c .before .before .before .before .before .before .before .args in

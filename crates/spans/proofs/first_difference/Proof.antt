@@ -17,41 +17,33 @@ Inv-loop v w i₀ i = (i ≤ length v) × (first v w ≡ i + first (drop i v) (d
 abbrev μ-loop : tie.MeasureT-loop
 μ-loop v w i₀ i = length v - i
 
--- src/lib.rt:12:5
 loop-holds : tie.Need-loop-holds Inv-loop μ-loop
 loop-holds c = search needs
 
--- src/lib.rt:13:12
 shared-slice-read-if1 : tie.Need-shared-slice-read-if1 Inv-loop μ-loop
 shared-slice-read-if1 c = search needs
 
--- src/lib.rt:13:20
 shared-slice-read-if1-2 : tie.Need-shared-slice-read-if1-2 Inv-loop μ-loop
 shared-slice-read-if1-2 c = search needs
 
--- src/lib.rt:14:13
 returns : tie.Need-returns Inv-loop μ-loop
 returns c =
     let a = c .before .before .before .before .before .args in
     let i = c .before .before .before .before .loop .i in
     omega (arith, first-here (a .v .now) (a .w .now) i (omega arith) (omega arith) (c .if1 .taken))
 
--- src/lib.rt:16:9
 add-i : tie.Need-add-i Inv-loop μ-loop
 add-i c = search needs
 
--- src/lib.rt:12:5
 loop-less : tie.Need-loop-less Inv-loop μ-loop
 loop-less c = search needs
 
--- src/lib.rt:12:5
 loop-again : tie.Need-loop-again Inv-loop μ-loop
 loop-again c =
     let a = c .before .before .before .before .before .args in
     let i = c .before .before .before .before .loop .i in
     omega (arith, first-on (a .v .now) (a .w .now) i (omega arith) (omega arith) (c .if1 .left))
 
--- src/lib.rt:7:1
 returns-2 : tie.Need-returns-2 Inv-loop μ-loop
 returns-2 c =
     let a = c .before .before .args in

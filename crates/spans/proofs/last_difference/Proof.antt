@@ -17,41 +17,33 @@ Inv-loop v w end₀ end = (end ≤ length v) × (last v w ≡ last (take end v) 
 abbrev μ-loop : tie.MeasureT-loop
 μ-loop v w end₀ end = end
 
--- src/lib.rt:27:5
 loop-holds : tie.Need-loop-holds Inv-loop μ-loop
 loop-holds c = (omega arith, last-start (c .args .v .now) (c .args .w .now) (c .pre))
 
--- src/lib.rt:28:17
 sub-j : tie.Need-sub-j Inv-loop μ-loop
 sub-j c = search needs
 
--- src/lib.rt:29:12
 shared-slice-read-if1 : tie.Need-shared-slice-read-if1 Inv-loop μ-loop
 shared-slice-read-if1 c = search needs
 
--- src/lib.rt:29:20
 shared-slice-read-if1-2 : tie.Need-shared-slice-read-if1-2 Inv-loop μ-loop
 shared-slice-read-if1-2 c = search needs
 
--- src/lib.rt:30:13
 returns : tie.Need-returns Inv-loop μ-loop
 returns c =
     let st = c .before .before .before .before .before in
     let l = c .before .before .before .before .loop in
     sym (l .inv .1 ∙ last-stop (st .args .v .now) (st .args .w .now) (l .end) (st .pre) (omega arith) (omega arith) (c .if1 .taken))
 
--- src/lib.rt:27:5
 loop-less : tie.Need-loop-less Inv-loop μ-loop
 loop-less c = search needs
 
--- src/lib.rt:27:5
 loop-again : tie.Need-loop-again Inv-loop μ-loop
 loop-again c =
     let st = c .before .before .before .before .before in
     let l = c .before .before .before .before .loop in
     (omega arith, l .inv .1 ∙ last-down (st .args .v .now) (st .args .w .now) (l .end) (st .pre) (omega arith) (omega arith) (c .if1 .left))
 
--- src/lib.rt:22:1
 returns-2 : tie.Need-returns-2 Inv-loop μ-loop
 returns-2 c =
     let a = c .before .before .args in

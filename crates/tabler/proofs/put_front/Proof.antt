@@ -9,21 +9,17 @@ use Rattle.tabler.proofs.put_front.Reads as reads
 use Rattle.tabler.proofs.put_front.Lts as lts
 use Rattle.tabler.proofs.put_table.Reads as put-table-reads
 
--- src/main.rt:86:19
 slice-aggregate-put-table : tie.Need-slice-aggregate-put-table
 slice-aggregate-put-table c =
     let st = c .before .before .before in
     sym (length-take-le (st .args .n) (st .args .out .now) (omega arith))
 
--- src/main.rt:86:9
 put-table-requires : tie.Need-put-table-requires
 put-table-requires c κs = search needs
 
--- src/main.rt:84:1
 returns : tie.Need-returns
 returns c = search needs
 
--- src/main.rt:84:1
 returns-2 : tie.Need-returns-2
 returns-2 c = search needs
 

@@ -17,57 +17,45 @@ use Rattle.words.proofs.wide.Reads as wide-reads
 abbrev arrays : tie.Start → Kept
 arrays st = kept (st .args .rows .now) (st .args .lengths .now) (st .args .places .now) (st .args .tags .now)
 
--- src/lib.rt:77:15
 mul-row : tie.Need-mul-row
 mul-row c = search needs
 
--- src/lib.rt:77:15
 element-copy-out-row : tie.Need-element-copy-out-row
 element-copy-out-row c = search needs
 
--- src/lib.rt:78:13
 mul-n : tie.Need-mul-n
 mul-n c = search needs
 
--- src/lib.rt:78:13
 element-copy-out-n : tie.Need-element-copy-out-n
 element-copy-out-n c = search needs
 
--- src/lib.rt:79:18
 element-copy-out-wide : tie.Need-element-copy-out-wide
 element-copy-out-wide c = search needs
 
--- src/lib.rt:79:9
 wide-requires : tie.Need-wide-requires
 wide-requires c κs = search needs
 
--- src/lib.rt:80:15
 element-copy-out-tag : tie.Need-element-copy-out-tag
 element-copy-out-tag c = search needs
 
--- src/lib.rt:81:25
 array-share-prefix-row : tie.Need-array-share-prefix-row
 array-share-prefix-row c =
     let st = c .before .before .before .before .before .before .before in
     omega (arith, st .pre .0 .length-short (st .args .i), st .pre .0 .row-long (st .args .i) (st .pre .1 .0))
 
--- src/lib.rt:81:25
 slice-aggregate-rewrite-leftmost : tie.Need-slice-aggregate-rewrite-leftmost
 slice-aggregate-rewrite-leftmost c =
     let st = c .before .before .before .before .before .before .before .before in
     sym (pattern-long (arrays st) (st .pre .0) (st .args .i) (st .pre .1 .0))
 
--- src/lib.rt:81:5
 rewrite-leftmost-requires : tie.Need-rewrite-leftmost-requires
 rewrite-leftmost-requires c κs =
     let st = c .before .before .before .before .before .before .before .before in
     omega (arith, pattern-long (arrays st) (st .pre .0) (st .args .i) (st .pre .1 .0), c .before .before .before .wide .ensures .0, st .pre .1 .1)
 
--- src/lib.rt:65:1
 same-length : tie.Need-same-length
 same-length c = search needs
 
--- src/lib.rt:65:1
 returns : tie.Need-returns
 returns c =
     let st = c .before .before .before .before .before .before .before .before .before .before .before in

@@ -24,25 +24,20 @@ abbrev μ-loop : tie.MeasureT-loop
 abbrev arrays : tie.Start Inv-loop μ-loop → Kept
 arrays st = kept (st .args .rows .now) (st .args .lengths .now) (st .args .places .now) (st .args .tags .now)
 
--- src/lib.rt:98:5
 loop-holds : tie.Need-loop-holds Inv-loop μ-loop
 loop-holds c = (omega arith, refl, refl)
 
--- src/lib.rt:99:9
 apply-rule-requires : tie.Need-apply-rule-requires Inv-loop μ-loop
 apply-rule-requires c κs =
     let st = c .before .before .before .before in
     (st .pre .0, (omega arith, st .pre .1 .1 (c .before .before .loop .i) (omega arith)))
 
--- src/lib.rt:100:9
 add-i : tie.Need-add-i Inv-loop μ-loop
 add-i c = search needs
 
--- src/lib.rt:98:5
 loop-less : tie.Need-loop-less Inv-loop μ-loop
 loop-less c = search needs
 
--- src/lib.rt:98:5
 loop-again : tie.Need-loop-again Inv-loop μ-loop
 loop-again c =
     let st = c .before .before .before .before .before .before .before in
@@ -50,11 +45,9 @@ loop-again c =
     let called = c .before .before .apply-rule in
     (omega arith, called .kept .0 ∙ l .inv .1, called .ensures ∙ rule-next (arrays st) (l .i) (st .args .s .now) (l .s) (l .inv .2))
 
--- src/lib.rt:85:1
 same-length : tie.Need-same-length Inv-loop μ-loop
 same-length c = search needs
 
--- src/lib.rt:85:1
 returns : tie.Need-returns Inv-loop μ-loop
 returns c =
     let st = c .before .before .before in

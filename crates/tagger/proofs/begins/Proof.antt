@@ -18,45 +18,36 @@ Inv-loop s i u j₀ j = (j ≤ length u) × (prefix (drop j u) (drop (j + i) s) 
 abbrev μ-loop : tie.MeasureT-loop
 μ-loop s i u j₀ j = length u - j
 
--- src/lib.rt:26:5
 loop-holds : tie.Need-loop-holds Inv-loop μ-loop
 loop-holds c = (search needs, ap (λ (n : ℕ). prefix (c .args .u .now) (drop n (c .args .s .now))) (zero-add (c .args .i)))
 
--- src/lib.rt:27:14
 add-if1 : tie.Need-add-if1 Inv-loop μ-loop
 add-if1 c = search needs
 
--- src/lib.rt:27:12
 shared-slice-read-if1 : tie.Need-shared-slice-read-if1 Inv-loop μ-loop
 shared-slice-read-if1 c = search needs
 
--- src/lib.rt:27:24
 shared-slice-read-if1-2 : tie.Need-shared-slice-read-if1-2 Inv-loop μ-loop
 shared-slice-read-if1-2 c = search needs
 
--- src/lib.rt:28:13
 returns : tie.Need-returns Inv-loop μ-loop
 returns c =
     let a = c .before .before .before .before .before .args in
     let l = c .before .before .before .before .loop in
     sym (other-next (a .u .now) (a .s .now) (a .i) (l .j) (omega arith) (omega arith) (c .if1 .taken)) ∙ l .inv .1
 
--- src/lib.rt:30:9
 add-j : tie.Need-add-j Inv-loop μ-loop
 add-j c = search needs
 
--- src/lib.rt:26:5
 loop-less : tie.Need-loop-less Inv-loop μ-loop
 loop-less c = search needs
 
--- src/lib.rt:26:5
 loop-again : tie.Need-loop-again Inv-loop μ-loop
 loop-again c =
     let a = c .before .before .before .before .before .args in
     let l = c .before .before .before .before .loop in
     (omega arith, sym (same-next (a .u .now) (a .s .now) (a .i) (l .j) (omega arith) (omega arith) (c .if1 .left)) ∙ l .inv .1)
 
--- src/lib.rt:21:1
 returns-2 : tie.Need-returns-2 Inv-loop μ-loop
 returns-2 c =
     let a = c .before .before .args in

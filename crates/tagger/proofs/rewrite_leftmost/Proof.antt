@@ -19,25 +19,20 @@ Inv-loop s₀ u p tag n last first i₀ s i = (i ≤ last + 1) × (s ≡ s₀) �
 abbrev μ-loop : tie.MeasureT-loop
 μ-loop s₀ u p tag n last first i₀ s i = last + 1 - i
 
--- src/lib.rt:42:9
 returns : tie.Need-returns Inv-loop μ-loop
 returns c =
     let a = c .before .before .before .args in
     sym (search-none (a .u .now) (set (a .u .now) (a .p) (a .tag)) (a .s .now) 0 refl (omega arith) (omega arith))
 
--- src/lib.rt:44:16
 sub-last : tie.Need-sub-last Inv-loop μ-loop
 sub-last c = search needs
 
--- src/lib.rt:45:17
 shared-slice-read-first : tie.Need-shared-slice-read-first Inv-loop μ-loop
 shared-slice-read-first c = search needs
 
--- src/lib.rt:47:5
 loop-holds : tie.Need-loop-holds Inv-loop μ-loop
 loop-holds c = (omega arith, refl, refl, refl)
 
--- src/lib.rt:47:5
 loop-again : tie.Need-loop-again Inv-loop μ-loop
 loop-again c =
     let a = c .before .before .before .before .before .before .before .before .args in
@@ -51,46 +46,36 @@ loop-again c =
           (c .if2 .came),
     )
 
--- src/lib.rt:48:12
 slice-read-if2 : tie.Need-slice-read-if2 Inv-loop μ-loop
 slice-read-if2 c = omega arith
 
--- src/lib.rt:49:16
 begins-requires : tie.Need-begins-requires Inv-loop μ-loop
 begins-requires c κs = omega arith
 
--- src/lib.rt:50:19
 add-s : tie.Need-add-s Inv-loop μ-loop
 add-s c = omega arith
 
--- src/lib.rt:50:17
 slice-write-s : tie.Need-slice-write-s Inv-loop μ-loop
 slice-write-s c = omega arith
 
--- src/lib.rt:51:17
 same-length : tie.Need-same-length Inv-loop μ-loop
 same-length c = simp length-set (omega arith)
 
--- src/lib.rt:51:17
 returns-2 : tie.Need-returns-2 Inv-loop μ-loop
 returns-2 c =
     let a = c .before .before .before .before .before .before .before .before .before .before .before .args in
     let l = c .before .before .before .before .before .before .loop in
     found (a .u .now) (a .s .now) (l .s) (a .p) (a .tag) (l .i) (l .inv .1) (l .inv .3) (omega arith) (omega arith) (c .before .begins .result) (c .before .begins .ensures) (c .if3 .taken)
 
--- src/lib.rt:54:9
 add-i : tie.Need-add-i Inv-loop μ-loop
 add-i c = omega arith
 
--- src/lib.rt:47:5
 loop-less : tie.Need-loop-less Inv-loop μ-loop
 loop-less c = omega arith
 
--- src/lib.rt:36:1
 same-length-2 : tie.Need-same-length-2 Inv-loop μ-loop
 same-length-2 c = omega arith
 
--- src/lib.rt:36:1
 returns-3 : tie.Need-returns-3 Inv-loop μ-loop
 returns-3 c =
     let a = c .before .before .before .before .before .before .args in

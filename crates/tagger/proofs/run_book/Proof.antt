@@ -20,22 +20,18 @@ use Rattle.tagger.proofs.run_book.Lts as lts
 use Rattle.books.proofs.read_into.Reads as read-into-reads
 use Rattle.tagger.proofs.run_rules.Reads as run-rules-reads
 
--- src/lib.rt:152:9
 both : {o : Outcome (List ℕ)} {w b a : List ℕ} {r : RunAnswer} → Ran o w b a r → (runOutcome r ≡ changed w o) × (a ≡ written o b)
 both h = (h .answered, h .wrote)
 
 read-into-requires : tie.Need-read-into-requires
 read-into-requires c κs = fresh-shaped
 
--- src/lib.rt:154:29
 enum-known-got : tie.Need-enum-known-got
 enum-known-got c = search needs
 
--- src/lib.rt:155:34
 enum-known-got-2 : tie.Need-enum-known-got-2
 enum-known-got-2 c = search needs
 
--- src/lib.rt:155:48
 run-rules-requires : tie.Need-run-rules-requires
 run-rules-requires c κs =
     let st = c .before .before .before .before .before .before .before .before .before .before .before .before .before .before .before .before in
@@ -49,7 +45,6 @@ run-rules-requires c κs =
       ),
     )
 
--- src/lib.rt:145:1
 returns : tie.Need-returns
 returns c =
     let st = c .before .before .before .before .before .before .before .before .before .before .before in
@@ -59,11 +54,9 @@ returns c =
     (ran-refused (bookRun (st .args .book .now) (st .args .sentence .now) (length (st .args .out .now))) (st .args .sentence .now) (st .args .out .now) (c .before .got .given .0 .0)
     (book-refused (st .args .book .now) a (r .result) (r .ensures) (st .args .sentence .now) (length (st .args .out .now)) _ (c .before .got .given .1)))
 
--- src/lib.rt:145:1
 same-length : tie.Need-same-length
 same-length c = search needs
 
--- src/lib.rt:145:1
 returns-2 : tie.Need-returns-2
 returns-2 c =
     let st = c .before .before .before .before .before .before .before .before .before .before .before .before .before .before .before .before .before .before .before in

@@ -26,15 +26,12 @@ made st =
 abbrev outcome : tie.Start → Outcome (List ℕ)
 outcome st = run (st .args .k) (st .args .sentence .now) (length (st .args .out .now)) (made st)
 
--- src/lib.rt:137:9
 admit-requires : tie.Need-admit-requires
 admit-requires c κs = search needs
 
--- src/lib.rt:138:31
 enum-known-admission : tie.Need-enum-known-admission
 enum-known-admission c = search needs
 
--- src/lib.rt:139:9
 returns : tie.Need-returns
 returns c =
     let st = c .before .before .before .before .before .before in
@@ -45,7 +42,6 @@ returns c =
 enum-told : tie.Need-enum-told
 enum-told c = search needs
 
--- src/lib.rt:141:24
 write-rules-requires : tie.Need-write-rules-requires
 write-rules-requires c κs =
     let st = c .before .before .before .before .before .before in
@@ -59,11 +55,9 @@ write-rules-requires c κs =
       ),
     )
 
--- src/lib.rt:123:1
 same-length : tie.Need-same-length
 same-length c = search needs
 
--- src/lib.rt:123:1
 returns-2 : tie.Need-returns-2
 returns-2 c =
     let st = c .before .before .before .before .before .before .before .before .before in

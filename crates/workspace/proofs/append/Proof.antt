@@ -16,35 +16,27 @@ Inv-loop work₀ g r c s from to r2 c2 s2 i₀ work i = Appending g work₀ work
 abbrev μ-loop : tie.MeasureT-loop
 μ-loop work₀ g r c s from to r2 c2 s2 i₀ work i = to - i
 
--- src/lib.rt:82:5
 loop-holds : tie.Need-loop-holds Inv-loop μ-loop
 loop-holds c = let st = c .before in let a = st .args in appending-start (a .g) (a .work .now) (word (a .g) (a .work .now) (a .r) (a .c) (a .s)) _ _ _ _ _ (omega (arith, word-length (a .g) (a .work .now) (a .r) (a .c) (a .s))) (st .pre .1 .1 .0 .0)
 
--- src/lib.rt:83:38
 add-get : tie.Need-add-get Inv-loop μ-loop
 add-get c = search needs
 
--- src/lib.rt:83:38
 add-get-2 : tie.Need-add-get-2 Inv-loop μ-loop
 add-get-2 c = search needs
 
--- src/lib.rt:83:13
 get-requires : tie.Need-get-requires Inv-loop μ-loop
 get-requires c κs = search needs
 
--- src/lib.rt:84:9
 push-requires : tie.Need-push-requires Inv-loop μ-loop
 push-requires c κs = search needs
 
--- src/lib.rt:85:9
 add-i : tie.Need-add-i Inv-loop μ-loop
 add-i c = search needs
 
--- src/lib.rt:82:5
 loop-less : tie.Need-loop-less Inv-loop μ-loop
 loop-less c = omega arith
 
--- src/lib.rt:82:5
 loop-again : tie.Need-loop-again Inv-loop μ-loop
 loop-again c =
     let st = c .before .before .before .before .before .before .before .before .before in
@@ -54,11 +46,9 @@ loop-again c =
     (tag-kept (a .g) (Cell (a .r2) (a .c2) (a .s2)) _ _ (c .before .before .before .before .before .before .before .loop .inv .kept) (a .r) (a .c) (a .s) (c .before .before .before .before .before .before .before .loop .i) _ (st .pre .1 .0) (omega arith) (λ e p. st .pre .1 .1 .1 .2 (p .0) (p .1)) (c .before .before .before .before .get .ensures))
     (c .before .before .push .ensures)
 
--- src/lib.rt:63:1
 same-length : tie.Need-same-length Inv-loop μ-loop
 same-length c = c .before .loop .inv .kept .long
 
--- src/lib.rt:63:1
 returns : tie.Need-returns Inv-loop μ-loop
 returns c =
     let st = c .before .before .before in

@@ -12,19 +12,15 @@ use Rattle.workspace.proofs.append_word.Lts as lts
 use Rattle.workspace.proofs.append.Reads as append-reads
 use Rattle.workspace.proofs.get.Reads as get-reads
 
--- src/lib.rt:106:9
 get-requires : tie.Need-get-requires
 get-requires c κs = search needs
 
--- src/lib.rt:107:5
 append-requires : tie.Need-append-requires
 append-requires c κs = let st = c .before .before .before .before in (st .pre .0, (st .pre .1 .0, (omega (arith, c .before .get .ensures .is), st .pre .1 .1 .1)))
 
--- src/lib.rt:99:1
 same-length : tie.Need-same-length
 same-length c = search needs
 
--- src/lib.rt:99:1
 returns : tie.Need-returns
 returns c = let a = c .before .before .before .before .before .before .before .args in written-is (a .g) _ _ _ _ _ _ _ (ap (λ (l : List ℕ). word (a .g) (a .work .now) (a .r2) (a .c2) (a .s2) ++ l) (part-whole (a .g) (a .work .now) (a .r) (a .c) (a .s) _ (c .before .before .before .before .get .ensures .is))) (c .before .before .append .ensures)
 

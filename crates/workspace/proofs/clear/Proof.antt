@@ -6,15 +6,12 @@ use Rattle.workspace.proofs.clear.Reads as reads
 use Rattle.workspace.proofs.clear.Lts as lts
 use Rattle.workspace.proofs.put.Reads as put-reads
 
--- src/lib.rt:56:5
 put-requires : tie.Need-put-requires
 put-requires c κs = search needs
 
--- src/lib.rt:51:1
 same-length : tie.Need-same-length
 same-length c = search needs
 
--- src/lib.rt:51:1
 returns : tie.Need-returns
 returns c = let st = c .before .before .before .before .before in word-clear (st .args .g) _ _ _ _ _ (c .before .before .put .ensures)
 

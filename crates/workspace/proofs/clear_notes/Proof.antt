@@ -17,27 +17,21 @@ Inv-loop work₀ g base n e q₀ work q = (q ≤ n) × Sized g work × Cleared g
 abbrev μ-loop : tie.MeasureT-loop
 μ-loop work₀ g base n e q₀ work q = n - q
 
--- src/lib.rt:63:5
 loop-holds : tie.Need-loop-holds Inv-loop μ-loop
 loop-holds c = let st = c .before in (omega arith, st .pre .0, cleared-start (st .args .g) _ _ _ (st .args .work .now))
 
--- src/lib.rt:64:22
 add-put : tie.Need-add-put Inv-loop μ-loop
 add-put c = search needs
 
--- src/lib.rt:64:9
 put-requires : tie.Need-put-requires Inv-loop μ-loop
 put-requires c κs = search needs
 
--- src/lib.rt:65:9
 add-q : tie.Need-add-q Inv-loop μ-loop
 add-q c = search needs
 
--- src/lib.rt:63:5
 loop-less : tie.Need-loop-less Inv-loop μ-loop
 loop-less c = search needs
 
--- src/lib.rt:63:5
 loop-again : tie.Need-loop-again Inv-loop μ-loop
 loop-again c =
     let st = c .before .before .before .before .before .before .before in
@@ -49,11 +43,9 @@ loop-again c =
       cleared-next (a .g) _ _ _ _ _ _ _ (st .pre .1 .1) (omega arith) (inv .2) p,
     )
 
--- src/lib.rt:57:1
 same-length : tie.Need-same-length Inv-loop μ-loop
 same-length c = search needs
 
--- src/lib.rt:57:1
 returns : tie.Need-returns Inv-loop μ-loop
 returns c =
     let a = c .before .before .before .args in

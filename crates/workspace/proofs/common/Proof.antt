@@ -19,39 +19,30 @@ Inv-loop work g r c s from r2 c2 s2 limit i₀ i = (i ≤ limit) × (length (mee
 abbrev μ-loop : tie.MeasureT-loop
 μ-loop work g r c s from r2 c2 s2 limit i₀ i = limit - i
 
--- src/lib.rt:109:5
 loop-holds : tie.Need-loop-holds Inv-loop μ-loop
 loop-holds c = let a = c .before .args in (omega arith, meet-start (word (a .g) (a .work .now) (a .r) (a .c) (a .s)) (take (a .limit) (word (a .g) (a .work .now) (a .r2) (a .c2) (a .s2))) (a .from))
 
--- src/lib.rt:110:43
 add-get : tie.Need-add-get Inv-loop μ-loop
 add-get c = search needs
 
--- src/lib.rt:110:38
 add-get-2 : tie.Need-add-get-2 Inv-loop μ-loop
 add-get-2 c = search needs
 
--- src/lib.rt:110:38
 add-get-3 : tie.Need-add-get-3 Inv-loop μ-loop
 add-get-3 c = search needs
 
--- src/lib.rt:110:13
 get-requires : tie.Need-get-requires Inv-loop μ-loop
 get-requires c κs = search needs
 
--- src/lib.rt:111:42
 add-get-4 : tie.Need-add-get-4 Inv-loop μ-loop
 add-get-4 c = search needs
 
--- src/lib.rt:111:42
 add-get-5 : tie.Need-add-get-5 Inv-loop μ-loop
 add-get-5 c = search needs
 
--- src/lib.rt:111:13
 get-requires-2 : tie.Need-get-requires-2 Inv-loop μ-loop
 get-requires-2 c κs = search needs
 
--- src/lib.rt:113:13
 returns : tie.Need-returns Inv-loop μ-loop
 returns c =
     let a = c .before .before .before .before .before .before .args in
@@ -64,15 +55,12 @@ returns c =
     (λ e. c .if1 .taken (c .before .before .get .ensures .is ∙ sym (word-at (a .g) (a .work .now) (a .r) (a .c) (a .s) (a .from + i) (omega arith)) ∙ e
     ∙ getD-take (a .limit) v i 0 (omega arith) ∙ word-at (a .g) (a .work .now) (a .r2) (a .c2) (a .s2) i (omega arith) ∙ sym (c .before .get2 .ensures .is)))
 
--- src/lib.rt:115:9
 add-i : tie.Need-add-i Inv-loop μ-loop
 add-i c = search needs
 
--- src/lib.rt:109:5
 loop-less : tie.Need-loop-less Inv-loop μ-loop
 loop-less c = omega arith
 
--- src/lib.rt:109:5
 loop-again : tie.Need-loop-again Inv-loop μ-loop
 loop-again c =
     let a = c .before .before .before .before .before .before .args in
@@ -87,7 +75,6 @@ loop-again c =
           sym (getD-take (a .limit) v i 0 (omega arith) ∙ word-at (a .g) (a .work .now) (a .r2) (a .c2) (a .s2) i (omega arith))),
     )
 
--- src/lib.rt:90:1
 returns-2 : tie.Need-returns-2 Inv-loop μ-loop
 returns-2 c =
     let a = c .before .before .before .args in

@@ -16,71 +16,54 @@ Inv-loop work₀ g r c s n len i₀ work i = Shifting g work₀ work r c s n i
 abbrev μ-loop : tie.MeasureT-loop
 μ-loop work₀ g r c s n len i₀ work i = len - i
 
--- src/lib.rt:112:9
 returns : tie.Need-returns Inv-loop μ-loop
 returns c = let a = c .before .before .args in dropped-none (a .g) _ _ _ _ _ (c .if1 .taken)
 
--- src/lib.rt:114:9
 get-requires : tie.Need-get-requires Inv-loop μ-loop
 get-requires c κs = search needs
 
--- src/lib.rt:116:5
 loop-holds : tie.Need-loop-holds Inv-loop μ-loop
 loop-holds c = let st = c .before .before .before .before in shifting-start (st .args .g) _ _ _ _ _ (st .pre .1 .0) (st .pre .1 .1)
 
--- src/lib.rt:117:38
 add-get : tie.Need-add-get Inv-loop μ-loop
 add-get c = search needs
 
--- src/lib.rt:117:38
 add-get-2 : tie.Need-add-get-2 Inv-loop μ-loop
 add-get-2 c = search needs
 
--- src/lib.rt:117:13
 get-requires-2 : tie.Need-get-requires-2 Inv-loop μ-loop
 get-requires-2 c κs = search needs
 
--- src/lib.rt:118:33
 sub-put : tie.Need-sub-put Inv-loop μ-loop
 sub-put c = search needs
 
--- src/lib.rt:118:28
 add-put : tie.Need-add-put Inv-loop μ-loop
 add-put c = search needs
 
--- src/lib.rt:118:28
 add-put-2 : tie.Need-add-put-2 Inv-loop μ-loop
 add-put-2 c = search needs
 
--- src/lib.rt:118:9
 put-requires : tie.Need-put-requires Inv-loop μ-loop
 put-requires c κs = search needs
 
--- src/lib.rt:119:9
 add-i : tie.Need-add-i Inv-loop μ-loop
 add-i c = search needs
 
--- src/lib.rt:116:5
 loop-less : tie.Need-loop-less Inv-loop μ-loop
 loop-less c = search needs
 
--- src/lib.rt:116:5
 loop-again : tie.Need-loop-again Inv-loop μ-loop
 loop-again c = let st = c .before .before .before .before .before .before .before .before .before .before .before .before in shifting-next (st .args .g) _ _ _ _ _ (st .pre .1 .0) _ _ _ _ (c .before .before .before .before .before .before .before .loop .inv) (omega (arith, c .before .before .before .before .before .before .before .before .get .ensures .is)) (c .before .before .before .before .get2 .ensures) (c .before .before .put .ensures)
 
--- src/lib.rt:121:27
 sub-put-2 : tie.Need-sub-put-2 Inv-loop μ-loop
 sub-put-2 c = search needs
 
--- src/lib.rt:121:5
 put-requires-2 : tie.Need-put-requires-2 Inv-loop μ-loop
 put-requires-2 c κs = search needs
 
--- src/lib.rt:105:1
 same-length : tie.Need-same-length Inv-loop μ-loop
 same-length c = search needs
 
--- src/lib.rt:105:1
 returns-2 : tie.Need-returns-2 Inv-loop μ-loop
 returns-2 c = let st = c .before .before .before .before .before .before .before .before .before .before in shifting-end (st .args .g) _ _ _ _ _ (st .pre .1 .0) _ _ _ (c .before .before .before .before .before .loop .inv) (omega (arith, c .before .before .before .before .before .before .get .ensures .is)) (rw (c .before .before .before .before .before .before .get .ensures .is) at (c .before .before .put2 .ensures))
 

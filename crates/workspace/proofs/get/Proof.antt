@@ -10,23 +10,18 @@ use Rattle.workspace.proofs.get.Lts as lts
 use Rattle.workspace.proofs.index_of.Reads as index-of-reads
 use Rattle.workspace.proofs.wide.Reads as wide-reads
 
--- src/lib.rt:36:9
 index-of-requires : tie.Need-index-of-requires
 index-of-requires c κs = search needs
 
--- src/lib.rt:37:10
 mul-wide : tie.Need-mul-wide
 mul-wide c = let st = c .before .before in omega (arith, c .index-of .ensures, ix-length (st .args .g) (st .args .work .now) (st .pre .0) (st .args .r) (st .args .c) (st .args .e) (st .pre .1))
 
--- src/lib.rt:37:10
 shared-slice-read-wide : tie.Need-shared-slice-read-wide
 shared-slice-read-wide c = let st = c .before .before .before in omega (arith, c .before .index-of .ensures, ix-length (st .args .g) (st .args .work .now) (st .pre .0) (st .args .r) (st .args .c) (st .args .e) (st .pre .1))
 
--- src/lib.rt:37:5
 wide-requires : tie.Need-wide-requires
 wide-requires c κs = search needs
 
--- src/lib.rt:31:1
 returns : tie.Need-returns
 returns c =
     let st = c .before .before .before .before in

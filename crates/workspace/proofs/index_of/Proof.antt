@@ -7,7 +7,6 @@ use Rattle.workspace.proofs.index_of.Tie as tie
 use Rattle.workspace.proofs.index_of.Reads as reads
 use Rattle.workspace.proofs.index_of.Lts as lts
 
--- src/lib.rt:22:11
 add-result : tie.Need-add-result
 unfolding ix
 add-result c =
@@ -15,7 +14,6 @@ add-result c =
     let h = c .before .pre .0 in
     omega (arith, c .before .pre .1, ix-below (a .g) (a .r) (a .c) (a .e) h, ix-parts (a .g) (a .r) (a .c) (a .e) h)
 
--- src/lib.rt:22:6
 mul-result : tie.Need-mul-result
 unfolding ix
 mul-result c =
@@ -23,7 +21,6 @@ mul-result c =
     let h = c .before .pre .0 in
     omega (arith, c .before .pre .1, ix-below (a .g) (a .r) (a .c) (a .e) h, ix-parts (a .g) (a .r) (a .c) (a .e) h)
 
--- src/lib.rt:22:6
 add-result-2 : tie.Need-add-result-2
 unfolding ix
 add-result-2 c =
@@ -31,7 +28,6 @@ add-result-2 c =
     let h = c .before .pre .0 in
     omega (arith, c .before .pre .1, ix-below (a .g) (a .r) (a .c) (a .e) h, ix-parts (a .g) (a .r) (a .c) (a .e) h)
 
--- src/lib.rt:22:5
 mul-result-2 : tie.Need-mul-result-2
 unfolding ix
 mul-result-2 c =
@@ -39,7 +35,6 @@ mul-result-2 c =
     let h = c .before .before .pre .0 in
     omega (arith, c .before .before .pre .1, ix-below (a .g) (a .r) (a .c) (a .e) h, ix-parts (a .g) (a .r) (a .c) (a .e) h)
 
--- src/lib.rt:22:5
 add-result-3 : tie.Need-add-result-3
 unfolding ix
 add-result-3 c =
@@ -47,7 +42,6 @@ add-result-3 c =
     let h = c .before .before .pre .0 in
     omega (arith, c .before .before .pre .1, ix-below (a .g) (a .r) (a .c) (a .e) h, ix-parts (a .g) (a .r) (a .c) (a .e) h)
 
--- src/lib.rt:17:1
 returns : tie.Need-returns
 unfolding ix
 returns c = search needs

@@ -8,35 +8,27 @@ use Rattle.workspace.proofs.push.Lts as lts
 use Rattle.workspace.proofs.get.Reads as get-reads
 use Rattle.workspace.proofs.put.Reads as put-reads
 
--- src/lib.rt:57:9
 get-requires : tie.Need-get-requires
 get-requires c κs = search needs
 
--- src/lib.rt:58:24
 add-put : tie.Need-add-put
 add-put c = search needs
 
--- src/lib.rt:58:24
 add-put-2 : tie.Need-add-put-2
 add-put-2 c = search needs
 
--- src/lib.rt:58:5
 put-requires : tie.Need-put-requires
 put-requires c κs = search needs
 
--- src/lib.rt:59:27
 add-put-3 : tie.Need-add-put-3
 add-put-3 c = search needs
 
--- src/lib.rt:59:5
 put-requires-2 : tie.Need-put-requires-2
 put-requires-2 c κs = search needs
 
--- src/lib.rt:51:1
 same-length : tie.Need-same-length
 same-length c = search needs
 
--- src/lib.rt:51:1
 returns : tie.Need-returns
 returns c =
     let st = c .before .before .before .before .before .before .before .before .before .before .before in

@@ -7,27 +7,21 @@ use Rattle.workspace.proofs.put.Reads as reads
 use Rattle.workspace.proofs.put.Lts as lts
 use Rattle.workspace.proofs.index_of.Reads as index-of-reads
 
--- src/lib.rt:46:9
 index-of-requires : tie.Need-index-of-requires
 index-of-requires c κs = search needs
 
--- src/lib.rt:47:15
 cast-work : tie.Need-cast-work
 cast-work c = search needs
 
--- src/lib.rt:47:5
 mul-work : tie.Need-mul-work
 mul-work c = let st = c .before .before in omega (arith, c .index-of .ensures, ix-length (st .args .g) (st .args .work .now) (st .pre .0) (st .args .r) (st .args .c) (st .args .e) (st .pre .1 .0))
 
--- src/lib.rt:47:5
 slice-write-work : tie.Need-slice-write-work
 slice-write-work c = let st = c .before .before in omega (arith, c .index-of .ensures, ix-length (st .args .g) (st .args .work .now) (st .pre .0) (st .args .r) (st .args .c) (st .args .e) (st .pre .1 .0))
 
--- src/lib.rt:40:1
 same-length : tie.Need-same-length
 same-length c = search needs
 
--- src/lib.rt:40:1
 returns : tie.Need-returns
 returns c =
     let st = c .before .before in

@@ -9,23 +9,18 @@ use Rattle.workspace.proofs.same_words.Lts as lts
 use Rattle.workspace.proofs.common.Reads as common-reads
 use Rattle.workspace.proofs.get.Reads as get-reads
 
--- src/lib.rt:183:9
 get-requires : tie.Need-get-requires
 get-requires c κs = search needs
 
--- src/lib.rt:184:13
 get-requires-2 : tie.Need-get-requires-2
 get-requires-2 c κs = search needs
 
--- src/lib.rt:185:9
 returns : tie.Need-returns
 returns c = let a = c .before .before .before .before .args in words-other (a .g) (a .work .now) _ _ _ _ _ _ _ _ (c .before .before .get .ensures .is) (c .before .get2 .ensures .is) (c .if1 .taken)
 
--- src/lib.rt:187:5
 common-requires : tie.Need-common-requires
 common-requires c κs = search needs
 
--- src/lib.rt:177:1
 returns-2 : tie.Need-returns-2
 returns-2 c = let a = c .before .before .before .before .before .args in words-decided (a .g) (a .work .now) _ _ _ _ _ _ _ _ (c .before .before .before .get .ensures .is) (c .before .if1 .left ∙ c .before .before .get2 .ensures .is) (c .common .ensures)
 
