@@ -4,24 +4,24 @@ use native.Mathlib.Omega.{arith}
 use native.Mathlib.Numerals.{add-one, add-two, add-three}
 use mathlib.Core.Path.{_≡_, refl, sym, ap, _∙_, subst}
 use mathlib.Core.Bool.{true, false}
-use mathlib.Core.List.{List, [], _∷_, _++_, reverse}
+use mathlib.Core.List.{List, [], _∷_, _++_}
 use borrow.Author.Tests.{lt-ltb, le-ltb, lt-leb, le-leb, eq-eqb, ne-eqb}
 use lib.Dec.{eqb, ltb, leb}
 use lib.ListN.{length, getD, drop}
 use lib.Seq.{drop-cons, drop-length}
 use Rattle.limits.specs.Limits.{fewest-tags, most-tags, most-rules, longest-pattern}
-use Rattle.answers.specs.Outcome.{Outcome, result, refused, byte}
+use Rattle.answers.specs.Outcome.{Outcome, result, refused, nothing, byte}
 use Rattle.cascades.specs.Rule.{Rule, Cascade}
-use Rattle.books.specs.Read.{Stage, opening, size, command, place, new-tag, pattern-tag, ended, Next, go, refuse, closing, opened, longer, step, finish, readFrom, read}
-use Rattle.books.specs.Kept.{Kept, Shaped, ruleAt, rulesDown}
-use Rattle.books.specs.Resume.{readCommands}
-use Rattle.books.proofs.Kept.{down-last, down-length, pattern-long, tagged-kept, tagged-down, opened-kept, opened-down}
+use Rattle.books.specs.Read.{Stage, opening, size, command, place, new-tag, pattern-tag, ended, closing, opened, longer, step, finish, readFrom, read}
+use Rattle.books.specs.Arrays.{Arrays, Shaped, ruleAt, rulesDown, cascadeOf}
+use Rattle.books.specs.Resume.{readCommands, faulted}
+use Rattle.books.proofs.Arrays.{down-last, down-length, pattern-long, tagged-arrays, tagged-down, opened-arrays, opened-down}
 
 module _ (s : List ℕ) (st : Stage) (at : ℕ) where
-  read-go : (st' : Stage) → at < length s → step st (getD s at 0) ≡ go st' → readFrom st at (drop at s) ≡ readFrom st' (at + 1) (drop (at + 1) s)
+  read-go : (st' : Stage) → at < length s → step st (getD s at 0) ≡ result st' → readFrom st at (drop at s) ≡ readFrom st' (at + 1) (drop (at + 1) s)
   read-go st' h e = cc (drop-cons s at 0 h, e, add-one at)
 
-  read-stop : (n : ℕ) → at < length s → step st (getD s at 0) ≡ refuse n → readFrom st at (drop at s) ≡ refused n (byte at)
+  read-stop : (n : ℕ) → at < length s → step st (getD s at 0) ≡ refused n nothing → readFrom st at (drop at s) ≡ refused n (byte at)
   read-stop n h e = cc (drop-cons s at 0 h, e)
 
   read-end : at ≡ length s → readFrom st at (drop at s) ≡ finish st at
@@ -49,13 +49,13 @@ module _ (s : List ℕ) where
     pub book-many : 1 < length s → fewest-tags ≤ getD s 1 0 → most-tags < getD s 1 0 → read s ≡ refused 2 (byte 1)
     book-many l f g = book-opened ∙ read-stop s size 1 2 l (cc (le-leb fewest-tags (getD s 1 0) f, lt-leb (getD s 1 0) most-tags g))
 
-    pub book-sized : (a : Kept) → 1 < length s → fewest-tags ≤ getD s 1 0 → getD s 1 0 ≤ most-tags → read s ≡ readCommands s (getD s 1 0) 0 a 2
+    pub book-sized : (a : Arrays) → 1 < length s → fewest-tags ≤ getD s 1 0 → getD s 1 0 ≤ most-tags → read s ≡ readCommands s (getD s 1 0) 0 a 2
     book-sized a l f g =
         book-opened ∙ read-go s size 1 (command (getD s 1 0) []) l (cc (le-leb fewest-tags (getD s 1 0) f, le-leb (getD s 1 0) most-tags g))
 
 -- ---- a command
 
-module _ (s : List ℕ) (k m : ℕ) (a : Kept) (at : ℕ) where
+module _ (s : List ℕ) (k m : ℕ) (a : Arrays) (at : ℕ) where
   pub command-missing : at ≡ length s → readCommands s k m a at ≡ refused 1 (byte at)
   command-missing e = read-end s (command k (rulesDown a m)) at e
 
@@ -66,27 +66,27 @@ module _ (s : List ℕ) (k m : ℕ) (a : Kept) (at : ℕ) where
 
     -- 00
     module _ (e : getD s at 0 ≡ 0x00) where
-      pub end-fault : (n : ℕ) → n ≡ closing (rulesDown a m) → (n ≡ 0 → ⊥) → readCommands s k m a at ≡ refused n (byte at)
+      pub end-fault : (n : ℕ) → closing (rulesDown a m) ≡ faulted n → (n ≡ 0 → ⊥) → readCommands s k m a at ≡ refused n (byte at)
       end-fault zero f d = absurd (d refl)
       end-fault (suc n) f d = read-stop s (command k (rulesDown a m)) at (suc n) h (cc)
 
-      module _ (f : 0 ≡ closing (rulesDown a m)) where
+      module _ (f : closing (rulesDown a m) ≡ faulted 0) where
         end-closed : readCommands s k m a at ≡ readFrom (ended k (rulesDown a m)) (at + 1) (drop (at + 1) s)
         end-closed = read-go s (command k (rulesDown a m)) at (ended k (rulesDown a m)) h (cc)
 
         pub end-more : at + 1 < length s → readCommands s k m a at ≡ refused 1 (byte (at + 1))
         end-more l = end-closed ∙ read-stop s (ended k (rulesDown a m)) (at + 1) 1 l refl
 
-        pub end-whole : at + 1 ≡ length s → readCommands s k m a at ≡ result (record { tags = k; rules = reverse (rulesDown a m) })
+        pub end-whole : at + 1 ≡ length s → readCommands s k m a at ≡ result (cascadeOf k a m)
         end-whole l = end-closed ∙ read-end s (ended k (rulesDown a m)) (at + 1) l
 
     -- 21
     module _ (e : getD s at 0 ≡ 0x21) where
-      pub rule-fault : (n : ℕ) → n ≡ closing (rulesDown a m) → (n ≡ 0 → ⊥) → readCommands s k m a at ≡ refused n (byte at)
+      pub rule-fault : (n : ℕ) → closing (rulesDown a m) ≡ faulted n → (n ≡ 0 → ⊥) → readCommands s k m a at ≡ refused n (byte at)
       rule-fault zero f d = absurd (d refl)
       rule-fault (suc n) f d = read-stop s (command k (rulesDown a m)) at (suc n) h (cc)
 
-      module _ (f : 0 ≡ closing (rulesDown a m)) where
+      module _ (f : closing (rulesDown a m) ≡ faulted 0) where
         pub rule-seventeenth : most-rules ≤ m → readCommands s k m a at ≡ refused 7 (byte at)
         rule-seventeenth l =
             read-stop s (command k (rulesDown a m)) at 7 h (cc (le-ltb (length (rulesDown a m)) most-rules (omega (arith, down-length a m))))
@@ -112,7 +112,7 @@ module _ (s : List ℕ) (k m : ℕ) (a : Kept) (at : ℕ) where
               ∙ read-stop s (new-tag k (rulesDown a m) (getD s (at + 1) 0)) (at + 1 + 1) 4 l (cc (le-ltb (getD s (at + 1 + 1) 0) k b))
 
           pub rule-opened : Shaped a → at + 1 + 1 < length s → getD s (at + 1 + 1) 0 < k
-              → readCommands s k m a at ≡ readCommands s k (m + 1) (opened-kept a m (getD s (at + 1) 0) (getD s (at + 1 + 1) 0)) (at + 1 + 1 + 1)
+              → readCommands s k m a at ≡ readCommands s k (m + 1) (opened-arrays a m (getD s (at + 1) 0) (getD s (at + 1 + 1) 0)) (at + 1 + 1 + 1)
           rule-opened sh l b =
               rule-placed (omega arith)
               ∙ read-go s (new-tag k (rulesDown a m) (getD s (at + 1) 0)) (at + 1 + 1)
@@ -144,7 +144,7 @@ module _ (s : List ℕ) (k m : ℕ) (a : Kept) (at : ℕ) where
               tag-counted ∙ read-stop s (pattern-tag k (ruleAt a (m - 1)) (rulesDown a (m - 1))) (at + 1) 4 l (cc (le-ltb (getD s (at + 1) 0) k b))
 
           pub tag-taken : at + 1 < length s → getD s (at + 1) 0 < k
-              → readCommands s k m a at ≡ readCommands s k m (tagged-kept a (m - 1) (getD s (at + 1) 0)) (at + 1 + 1)
+              → readCommands s k m a at ≡ readCommands s k m (tagged-arrays a (m - 1) (getD s (at + 1) 0)) (at + 1 + 1)
           tag-taken l b =
               let n : suc (m - 1) ≡ m = omega arith in
               tag-counted

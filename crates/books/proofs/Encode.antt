@@ -4,20 +4,18 @@ use native.Mathlib.Decide.{ℕ-discrete}
 use native.Mathlib.Omega.{arith}
 use mathlib.Core.Path.{_≡_, refl, sym, ap, _∙_, subst}
 use mathlib.Core.Logic.{_↔_}
-use mathlib.Core.Bool.{Bool, true, false, _&&_}
+use mathlib.Core.Bool.{Bool, true, false, not, _&&_}
 use mathlib.Core.List.{List, [], _∷_, _++_, reverse, append-nil, append-assoc, reverse-cons, reverse-reverse}
 use borrow.Author.Tests.{lt-ltb, le-leb, eq-eqb, ne-eqb, ltb-true, leb-true, eqb-true, eqb-false, ltb-false}
 use lib.Dec.{eqb, leb, ltb}
 use lib.ListN.{length, getD, length-append, length-reverse}
 use Rattle.limits.specs.Limits.{fewest-tags, most-tags, most-rules, longest-pattern}
-use Rattle.answers.specs.Outcome.{Outcome, result, refused, byte}
+use Rattle.answers.specs.Outcome.{Place, Outcome, result, refused, nothing, byte, andThen, provided}
 use Rattle.words.specs.Word.{Below}
 use Rattle.words.proofs.Word.{below-append}
 use Rattle.cascades.specs.Rule.{Rule, Cascade, ValidRule, ValidRules}
 use Rattle.books.specs.Book.{Valid, encodePattern, encodeRule, encodeRules, encode}
-use Rattle.books.specs.Read.{Stage, opening, size, command, place, new-tag, pattern-tag, ended, Next, go, refuse, fault, closing, unless, nextTag, nextRule, commandStep, below, opened, longer, step, finish, readFrom, read}
-use Rattle.books.specs.Kept.{Kept, ruleAt, rulesDown}
-use Rattle.books.proofs.Kept.{down-length}
+use Rattle.books.specs.Read.{Stage, opening, size, command, place, new-tag, pattern-tag, ended, closed, closing, nextTag, nextRule, below, opened, longer, step, finish, readFrom, read}
 
 -- ---- encodings are read
 
@@ -25,14 +23,13 @@ use Rattle.books.proofs.Kept.{down-length}
 abbrev Accepts : Stage → List ℕ → Cascade → Type 0
 Accepts s bs c = (at : ℕ) → readFrom s at bs ≡ result c
 
-accepts-next : (s s' : Stage) (b : ℕ) (bs : List ℕ) (c : Cascade) → step s b ≡ go s' → Accepts s' bs c → Accepts s (b ∷ bs) c
+accepts-next : (s s' : Stage) (b : ℕ) (bs : List ℕ) (c : Cascade) → step s b ≡ result s' → Accepts s' bs c → Accepts s (b ∷ bs) c
 accepts-next s s' b bs c e f at = cc (e, f (suc at))
 
-fault-none : (l k : ℕ) (r : Rule) → ValidRule l k r → fault r ≡ 0
-fault-none l k r h =
-    let n : length (r .pattern) ≡ 0 → ⊥ = λ e. omega (arith, h .place-inside) in
+closed-valid : (l k : ℕ) (r : Rule) → ValidRule l k r → closed r ≡ result tt
+closed-valid l k r h =
     cc (
-      ne-eqb (length (r .pattern)) 0 n,
+      lt-ltb 0 (length (r .pattern)) (omega (arith, h .place-inside)),
       lt-ltb (r .place) (length (r .pattern)) (h .place-inside),
       ne-eqb (getD (r .pattern) (r .place) 0) (r .tag) (h .tag-new),
     )
@@ -40,7 +37,7 @@ fault-none l k r h =
 abbrev with-pattern : Rule → List ℕ → Rule
 with-pattern r u = record { pattern = u; place = r .place; tag = r .tag }
 
-below-go : (k b : ℕ) (s : Stage) → b < k → below k b s ≡ go s
+below-go : (k b : ℕ) (s : Stage) → b < k → below k b s ≡ result s
 below-go k b s h = cc (lt-ltb b k h)
 
 accepts-pattern : (k : ℕ) (r : Rule) (rs : List Rule) (u rest : List ℕ) (c : Cascade) → length (r .pattern) + length u ≤ longest-pattern → Below k u
@@ -58,7 +55,7 @@ abbrev pub cascade : ℕ → List Rule → Cascade
 cascade k rs = record { tags = k; rules = rs }
 
 -- the commands from a place where the last rule may be closed
-accepts-rules : (k : ℕ) (rs more : List Rule) → closing rs ≡ 0 → length rs + length more ≤ most-rules → ValidRules longest-pattern k more
+accepts-rules : (k : ℕ) (rs more : List Rule) → closing rs ≡ result tt → length rs + length more ≤ most-rules → ValidRules longest-pattern k more
     → Accepts (command k rs) (encodeRules more ++ (0x00 ∷ [])) (cascade k (reverse rs ++ more))
 accepts-rules k rs [] z h v = λ at. cc (z, append-nil (reverse rs))
 accepts-rules k rs (r ∷ more) z h v =
@@ -70,7 +67,7 @@ accepts-rules k rs (r ∷ more) z h v =
     ap (cascade k) (ap (λ (x : List Rule). x ++ more) (reverse-cons r rs) ∙ append-assoc (reverse rs) (r ∷ []) more)
     in
     let rule : Accepts (command k (r ∷ rs)) rest c =
-    subst (Accepts (command k (r ∷ rs)) rest) e (accepts-rules k (r ∷ rs) more (fault-none longest-pattern k r (v .0)) m (v .1))
+    subst (Accepts (command k (r ∷ rs)) rest) e (accepts-rules k (r ∷ rs) more (closed-valid longest-pattern k r (v .0)) m (v .1))
     in
     let pattern : Accepts (command k (opened (r .place) (r .tag) ∷ rs)) (encodePattern (r .pattern) ++ rest) c =
     accepts-pattern k (opened (r .place) (r .tag)) rs (r .pattern) rest c (omega (arith, v .0 .short)) (v .0 .pattern-below) rule
@@ -99,14 +96,14 @@ down [] = []
 down (r ∷ rs) = down rs ++ encodeRule r
 
 -- the bytes that lead to a stage
-abbrev behind : Stage → List ℕ
-behind opening = []
-behind size = 0x20 ∷ []
-behind (command k rs) = 0x20 ∷ k ∷ down rs
-behind (place k rs) = 0x20 ∷ k ∷ (down rs ++ (0x21 ∷ []))
-behind (new-tag k rs p) = 0x20 ∷ k ∷ (down rs ++ (0x21 ∷ p ∷ []))
-behind (pattern-tag k r rs) = 0x20 ∷ k ∷ (down (r ∷ rs) ++ (0x22 ∷ []))
-behind (ended k rs) = 0x20 ∷ k ∷ (down rs ++ (0x00 ∷ []))
+abbrev read-so-far : Stage → List ℕ
+read-so-far opening = []
+read-so-far size = 0x20 ∷ []
+read-so-far (command k rs) = 0x20 ∷ k ∷ down rs
+read-so-far (place k rs) = 0x20 ∷ k ∷ (down rs ++ (0x21 ∷ []))
+read-so-far (new-tag k rs p) = 0x20 ∷ k ∷ (down rs ++ (0x21 ∷ p ∷ []))
+read-so-far (pattern-tag k r rs) = 0x20 ∷ k ∷ (down (r ∷ rs) ++ (0x22 ∷ []))
+read-so-far (ended k rs) = 0x20 ∷ k ∷ (down rs ++ (0x00 ∷ []))
 
 record Tags (k : ℕ) : Type 0 where
   enough : fewest-tags ≤ k
@@ -133,45 +130,49 @@ Shown (pattern-tag k r rs) = Tags k × (length rs < most-rules) × Open longest-
 Shown (ended k rs) = Tags k × (length rs ≤ most-rules) × ValidRules longest-pattern k rs
 
 -- a byte that is taken keeps both
-abbrev Follows : Stage → ℕ → Next → Type 0
-Follows s b (go s') = Shown s' × (behind s' ≡ behind s ++ (b ∷ []))
-Follows s b (refuse n) = Unit {0}
+abbrev Follows : Stage → ℕ → Outcome Stage → Type 0
+Follows s b (result s') = Shown s' × (read-so-far s' ≡ read-so-far s ++ (b ∷ []))
+Follows s b (refused n p) = Unit {0}
 
--- `fault` over the values of its tests
-abbrev faultBy : Bool → Bool → Bool → ℕ
-faultBy empty inside same =
-    elim empty [ true ↦ 3 | false ↦ elim inside [ false ↦ 5 | true ↦ elim same [ true ↦ 6 | false ↦ 0 ] ] ]
+-- what a rule that closes has been tested for
+provided-true : {A : Type 0} (n : ℕ) (t : Bool) (o : Outcome A) (x : A) → provided n t o ≡ result x → (t ≡ true) × (o ≡ result x)
+provided-true n true o x e = (refl, e)
+provided-true n false o x e = let z : _≡_ {A = ℕ} 0 1 = cc in absurd (omega arith)
 
-no-fault-inside : (s t u : Bool) → faultBy s t u ≡ 0 → (t ≡ true) × (u ≡ false)
-no-fault-inside true t u z = absurd (omega arith)
-no-fault-inside false true true z = absurd (omega arith)
-no-fault-inside false true false z = (refl, refl)
-no-fault-inside false false u z = absurd (omega arith)
+not-true : (t : Bool) → not t ≡ true → t ≡ false
+not-true true e = sym e
+not-true false e = refl
 
-no-fault : (k : ℕ) (r : Rule) → Open longest-pattern k r → fault r ≡ 0 → ValidRule longest-pattern k r
-no-fault k r o z =
+valid-closed : (k : ℕ) (r : Rule) → Open longest-pattern k r → closed r ≡ result tt → ValidRule longest-pattern k r
+valid-closed k r o z =
     let n = length (r .pattern) in
     let a = getD (r .pattern) (r .place) 0 in
-    let h = no-fault-inside (eqb n 0) (ltb (r .place) n) (eqb a (r .tag)) z in
+    let three = provided-true 3 (ltb 0 n) _ tt z in
+    let five = provided-true 5 (ltb (r .place) n) _ tt (three .1) in
+    let six = provided-true 6 (not (eqb a (r .tag))) _ tt (five .1) in
     record {
       short = o .short;
       pattern-below = o .pattern-below;
-      place-inside = ltb-true (r .place) n (h .0);
+      place-inside = ltb-true (r .place) n (five .0);
       tag-below = o .tag-below;
-      tag-new = eqb-false a (r .tag) (h .1);
+      tag-new = eqb-false a (r .tag) (not-true (eqb a (r .tag)) (six .0));
     }
 
-closed : (k : ℕ) (rs : List Rule) → OpenFirst k rs → closing rs ≡ 0 → ValidRules longest-pattern k rs
-closed k [] o z = tt
-closed k (r ∷ rs) o z = (no-fault k r (o .0) z, o .1)
+valid-closing : (k : ℕ) (rs : List Rule) → OpenFirst k rs → closing rs ≡ result tt → ValidRules longest-pattern k rs
+valid-closing k [] o z = tt
+valid-closing k (r ∷ rs) o z = (valid-closed k r (o .0) z, o .1)
 
-by-test : (P : Next → Type 0) (t : Bool) (x y : Next) → (t ≡ true → P x) → (t ≡ false → P y) → P (elim t [ true ↦ x | false ↦ y ])
+by-test : (P : Outcome Stage → Type 0) (t : Bool) (x y : Outcome Stage) → (t ≡ true → P x) → (t ≡ false → P y) → P (elim t [ true ↦ x | false ↦ y ])
 by-test P true x y f g = f refl
 by-test P false x y f g = g refl
 
-unless-fault : (P : Next → Type 0) (n : ℕ) (x : Next) → (n ≡ 0 → P x) → ((m : ℕ) → P (refuse m)) → P (unless n x)
-unless-fault P zero x f g = f refl
-unless-fault P (suc n) x f g = g (suc n)
+by-provided : (P : Outcome Stage → Type 0) (n : ℕ) (t : Bool) (x : Outcome Stage) → (t ≡ true → P x) → P (refused n nothing) → P (provided n t x)
+by-provided P n true x f r = f refl
+by-provided P n false x f r = r
+
+by-closing : (P : Outcome Stage → Type 0) (o : Outcome (Unit {0})) (x : Outcome Stage) → (o ≡ result tt → P x) → ((n : ℕ) (p : Place) → P (refused n p)) → P (andThen o (λ u. x))
+by-closing P (result tt) x f g = f refl
+by-closing P (refused n p) x f g = g n p
 
 encodePattern-snoc : (u : List ℕ) (a : ℕ) → encodePattern (u ++ (a ∷ [])) ≡ encodePattern u ++ (0x22 ∷ a ∷ [])
 encodePattern-snoc [] a = refl
@@ -192,41 +193,40 @@ longer-bytes r rs a =
     e ∙ simp append-assoc
 
 module _ (k : ℕ) (rs : List Rule) (b : ℕ) (h : Shown (command k rs)) where
-  command-ends : eqb b 0x00 ≡ true → Follows (command k rs) b (unless (closing rs) (go (ended k rs)))
+  command-ends : eqb b 0x00 ≡ true → Follows (command k rs) b (andThen (closing rs) (λ u. result (ended k rs)))
   command-ends e =
-      unless-fault (Follows (command k rs) b) (closing rs) (go (ended k rs))
-      (λ z. ((h .0, h .1, closed k rs (h .2) z), ap (λ (x : ℕ). 0x20 ∷ k ∷ (down rs ++ (x ∷ []))) (sym (eqb-true b 0x00 e))))
-      (λ m. tt)
+      by-closing (Follows (command k rs) b) (closing rs) (result (ended k rs))
+      (λ z. ((h .0, h .1, valid-closing k rs (h .2) z), ap (λ (x : ℕ). 0x20 ∷ k ∷ (down rs ++ (x ∷ []))) (sym (eqb-true b 0x00 e))))
+      (λ n p. tt)
 
-  command-opens : eqb b 0x21 ≡ true → Follows (command k rs) b (unless (closing rs) (nextRule k rs))
+  command-opens : eqb b 0x21 ≡ true → Follows (command k rs) b (andThen (closing rs) (λ u. nextRule k rs))
   command-opens e =
-      unless-fault (Follows (command k rs) b) (closing rs) (nextRule k rs)
-      (λ z. by-test (Follows (command k rs) b) (ltb (length rs) most-rules) (go (place k rs)) (refuse 7)
+      by-closing (Follows (command k rs) b) (closing rs) (nextRule k rs)
+      (λ z. by-provided (Follows (command k rs) b) 7 (ltb (length rs) most-rules) (result (place k rs))
       (λ t. (
-        (h .0, ltb-true (length rs) most-rules t, closed k rs (h .2) z),
+        (h .0, ltb-true (length rs) most-rules t, valid-closing k rs (h .2) z),
         ap (λ (x : ℕ). 0x20 ∷ k ∷ (down rs ++ (x ∷ []))) (sym (eqb-true b 0x21 e)),
       ))
-      (λ t. tt))
-      (λ m. tt)
+      tt)
+      (λ n p. tt)
 
 command-tag : (k : ℕ) (rs : List Rule) (b : ℕ) → Shown (command k rs) → eqb b 0x22 ≡ true → Follows (command k rs) b (nextTag k rs)
 command-tag k [] b h e = tt
 command-tag k (r ∷ rs) b h e =
-    by-test (Follows (command k (r ∷ rs)) b) (ltb (length (r .pattern)) longest-pattern) (go (pattern-tag k r rs)) (refuse 3)
+    by-provided (Follows (command k (r ∷ rs)) b) 3 (ltb (length (r .pattern)) longest-pattern) (result (pattern-tag k r rs))
     (λ t. (
       (h .0, omega (arith, h .1), h .2 .0, ltb-true (length (r .pattern)) longest-pattern t, h .2 .1),
       ap (λ (x : ℕ). 0x20 ∷ k ∷ (down (r ∷ rs) ++ (x ∷ []))) (sym (eqb-true b 0x22 e)),
     ))
-    (λ t. tt)
+    tt
 
 -- every byte that is taken is told, and shows what it was tested for
 step-follows : (s : Stage) (b : ℕ) → Shown s → Follows s b (step s b)
-step-follows opening b h =
-    by-test (Follows opening b) (eqb b 0x20) (go size) (refuse 1) (λ e. (tt, ap (λ (x : ℕ). x ∷ []) (sym (eqb-true b 0x20 e)))) (λ e. tt)
+step-follows opening b h = by-provided (Follows opening b) 1 (eqb b 0x20) (result size) (λ e. (tt, ap (λ (x : ℕ). x ∷ []) (sym (eqb-true b 0x20 e)))) tt
 step-follows size b h =
-    by-test (Follows size b) (leb fewest-tags b && leb b most-tags) (go (command b [])) (refuse 2)
+    by-provided (Follows size b) 2 (leb fewest-tags b && leb b most-tags) (result (command b []))
     (λ e. ((both (leb fewest-tags b) (leb b most-tags) refl refl e, omega arith, tt), refl))
-    (λ e. tt)
+    tt
   where
     both : (s t : Bool) → leb fewest-tags b ≡ s → leb b most-tags ≡ t → (s && t) ≡ true → Tags b
     both true true e f g = record { enough = leb-true fewest-tags b e; few = leb-true b most-tags f }
@@ -234,33 +234,33 @@ step-follows size b h =
     both false t e f g = let z : _≡_ {A = ℕ} 0 1 = cc in absurd (omega arith)
 step-follows (command k rs) b h =
     let P = Follows (command k rs) b in
-    let tag : Next = elim (eqb b 0x22) [ true ↦ nextTag k rs | false ↦ refuse 1 ] in
-    let rule : Next = elim (eqb b 0x21) [ true ↦ unless (closing rs) (nextRule k rs) | false ↦ tag ] in
-    by-test P (eqb b 0x00) (unless (closing rs) (go (ended k rs))) rule (command-ends k rs b h)
-    (λ e. by-test P (eqb b 0x21) (unless (closing rs) (nextRule k rs)) tag (command-opens k rs b h)
-    (λ f. by-test P (eqb b 0x22) (nextTag k rs) (refuse 1) (command-tag k rs b h) (λ g. tt)))
+    let tag : Outcome Stage = elim (eqb b 0x22) [ true ↦ nextTag k rs | false ↦ refused 1 nothing ] in
+    let rule : Outcome Stage = elim (eqb b 0x21) [ true ↦ andThen (closing rs) (λ u. nextRule k rs) | false ↦ tag ] in
+    by-test P (eqb b 0x00) (andThen (closing rs) (λ u. result (ended k rs))) rule (command-ends k rs b h)
+    (λ e. by-test P (eqb b 0x21) (andThen (closing rs) (λ u. nextRule k rs)) tag (command-opens k rs b h)
+    (λ f. by-test P (eqb b 0x22) (nextTag k rs) (refused 1 nothing) (command-tag k rs b h) (λ g. tt)))
 step-follows (place k rs) b h = (h, ap (λ (x : List ℕ). 0x20 ∷ k ∷ x) (sym (append-assoc (down rs) (0x21 ∷ []) (b ∷ []))))
 step-follows (new-tag k rs p) b h =
-    by-test (Follows (new-tag k rs p) b) (ltb b k) (go (command k (opened p b ∷ rs))) (refuse 4)
+    by-provided (Follows (new-tag k rs p) b) 4 (ltb b k) (result (command k (opened p b ∷ rs)))
     (λ e. (
       (h .0, h .1, (record { short = omega arith; pattern-below = tt; tag-below = ltb-true b k e }, h .2)),
       ap (λ (x : List ℕ). 0x20 ∷ k ∷ x) (sym (append-assoc (down rs) (0x21 ∷ p ∷ []) (b ∷ []))),
     ))
-    (λ e. tt)
+    tt
 step-follows (pattern-tag k r rs) b h =
-    by-test (Follows (pattern-tag k r rs) b) (ltb b k) (go (command k (longer r b ∷ rs))) (refuse 4)
+    by-provided (Follows (pattern-tag k r rs) b) 4 (ltb b k) (result (command k (longer r b ∷ rs)))
     (λ e. (
       (h .0, h .1, (longer-open k r b (h .2) (h .3) (ltb-true b k e), h .4)),
       ap (λ (x : List ℕ). 0x20 ∷ k ∷ x) (longer-bytes r rs b),
     ))
-    (λ e. tt)
+    tt
 step-follows (ended k rs) b h = tt
 
 valid-append : (l k : ℕ) (rs more : List Rule) → ValidRules l k rs → ValidRules l k more → ValidRules l k (rs ++ more)
 valid-append l k [] more h m = m
 valid-append l k (r ∷ rs) more h m = (h .0, valid-append l k rs more (h .1) m)
 
-valid-reverse : (l k : ℕ) (rs : List Rule) → ValidRules l k rs → ValidRules l k (reverse rs)
+pub valid-reverse : (l k : ℕ) (rs : List Rule) → ValidRules l k rs → ValidRules l k (reverse rs)
 valid-reverse l k [] h = tt
 valid-reverse l k (r ∷ rs) h =
     subst (ValidRules l k) (sym (reverse-cons r rs)) (valid-append l k (reverse rs) (r ∷ []) (valid-reverse l k rs (h .1)) (h .0, tt))
@@ -279,7 +279,7 @@ down-reverse (r ∷ rs) =
 
 -- a cascade that reading on gives is valid, and the bytes are its encoding
 abbrev Encodes : Stage → List ℕ → Cascade → Type 0
-Encodes s bs c = Valid c × (behind s ++ bs ≡ encode c)
+Encodes s bs c = Valid c × (read-so-far s ++ bs ≡ encode c)
 
 not-read : {A : Type 0} (n at : ℕ) (c : Cascade) → refused n (byte at) ≡ result c → A
 not-read n at c e = let z : _≡_ {A = ℕ} 0 1 = cc in absurd (omega arith)
@@ -300,7 +300,7 @@ read-ends (ended k rs) at c h e =
         few-rules = subst (λ (n : ℕ). n ≤ most-rules) (sym (length-reverse rs)) (h .1);
         rules-valid = valid-reverse longest-pattern k rs (h .2);
       },
-      cc (append-nil (behind (ended k rs)), down-reverse rs),
+      cc (append-nil (read-so-far (ended k rs)), down-reverse rs),
     )
   where
     same : cascade k (reverse rs) ≡ c
@@ -310,10 +310,10 @@ read-follows : (s : Stage) (at : ℕ) (bs : List ℕ) (c : Cascade) → Shown s 
 read-follows s at [] c h e = read-ends s at c h e
 read-follows s at (b ∷ bs) c h e = next (step s b) (step-follows s b h) e (λ s' i f. read-follows s' (suc at) bs c i f)
   where
-    next : (n : Next) → Follows s b n → _≡_ {A = Outcome Cascade} (elim n [ go s' ↦ readFrom s' (suc at) bs | refuse m ↦ refused m (byte at) ]) (result c)
+    next : (o : Outcome Stage) → Follows s b o → _≡_ {A = Outcome Cascade} (elim o [ result s' ↦ readFrom s' (suc at) bs | refused m p ↦ refused m (byte at) ]) (result c)
         → ((s' : Stage) → Shown s' → readFrom s' (suc at) bs ≡ result c → Encodes s' bs c) → Encodes s (b ∷ bs) c
-    next (go s') f e r = let g = r s' (f .0) e in (g .0, cc (g .1, f .1, append-assoc (behind s) (b ∷ []) bs))
-    next (refuse m) f e r = not-read m at c e
+    next (result s') f e r = let g = r s' (f .0) e in (g .0, cc (g .1, f .1, append-assoc (read-so-far s) (b ∷ []) bs))
+    next (refused m p) f e r = not-read m at c e
 
 -- "A book is valid if none of the refusals for a book fits its bytes": the reader takes the encodings of valid cascades and nothing else
 pub reads-exactly : (bs : List ℕ) (c : Cascade) → (read bs ≡ result c) ↔ (Valid c × (bs ≡ encode c))
@@ -321,26 +321,3 @@ reads-exactly bs c = (
   λ e. read-follows opening 0 bs c tt e,
   λ h. ap read (h .1) ∙ reads-encoding c (h .0),
 )
-
--- ---- what the arrays of a book that was read hold
-
-down-valid : (l k : ℕ) (a : Kept) (m : ℕ) → ValidRules l k (rulesDown a m) → (i : ℕ) → i < m → ValidRule l k (ruleAt a i)
-down-valid l k a (suc m) h i n = at (ℕ-discrete i m) (down-valid l k a m (h .1) i)
-  where
-    at : Dec (i ≡ m) → (i < m → ValidRule l k (ruleAt a i)) → ValidRule l k (ruleAt a i)
-    at (yes e) f = rw e (h .0)
-    at (no d) f = f (omega arith)
-
--- each rule of the arrays is valid
-pub kept-valid : (bs : List ℕ) (k m : ℕ) (a : Kept) → result (cascade k (reverse (rulesDown a m))) ≡ read bs
-    → (i : ℕ) → i < m → ValidRule longest-pattern k (ruleAt a i)
-kept-valid bs k m a e =
-    let v = reads-exactly bs (cascade k (reverse (rulesDown a m))) .0 (sym e) .0 .rules-valid in
-    down-valid longest-pattern k a m
-    (subst (ValidRules longest-pattern k) (reverse-reverse (rulesDown a m)) (valid-reverse longest-pattern k (reverse (rulesDown a m)) v))
-
--- and there are at most sixteen
-pub kept-few : (bs : List ℕ) (k m : ℕ) (a : Kept) → result (cascade k (reverse (rulesDown a m))) ≡ read bs → m ≤ most-rules
-kept-few bs k m a e =
-    let v = reads-exactly bs (cascade k (reverse (rulesDown a m))) .0 (sym e) .0 .few-rules in
-    omega (arith, length-reverse (rulesDown a m), down-length a m)

@@ -1,6 +1,7 @@
 -- Laws of books.
 pub mod Encode
 pub mod Refusal
-pub mod Kept
+pub mod Arrays
 pub mod Commands
 pub mod Resume
+pub mod Held

@@ -1,15 +1,14 @@
 -- What a book's refusal is: a number from 1 to 7, naming a byte.
-use Prim.Native.Nat.{ℕ, zero, suc, _≤_}
+use Prim.Native.Nat.{ℕ, suc, _≤_}
 use native.Mathlib.Omega.{arith}
-use mathlib.Core.Path.{_≡_}
-use mathlib.Core.Bool.{Bool, true, false, _&&_}
+use mathlib.Core.Bool.{Bool, true, false, not, _&&_}
 use mathlib.Core.List.{List, [], _∷_}
 use lib.Dec.{eqb, leb, ltb}
 use lib.ListN.{length, getD}
 use Rattle.limits.specs.Limits.{fewest-tags, most-tags, most-rules, longest-pattern}
-use Rattle.answers.specs.Outcome.{Outcome, result, refused, nothing, byte, rule}
+use Rattle.answers.specs.Outcome.{Outcome, result, refused, nothing, byte, rule, andThen, provided}
 use Rattle.cascades.specs.Rule.{Rule, Cascade}
-use Rattle.books.specs.Read.{Stage, opening, size, command, place, new-tag, pattern-tag, ended, Next, go, refuse, fault, closing, unless, nextTag, nextRule, commandStep, below, step, readFrom, read}
+use Rattle.books.specs.Read.{Stage, opening, size, command, place, new-tag, pattern-tag, ended, closing, nextTag, nextRule, commandStep, opened, longer, step, readFrom, read}
 
 abbrev pub BookRefusal : Outcome Cascade → Type 0
 BookRefusal (result c) = Unit {0}
@@ -17,56 +16,52 @@ BookRefusal (refused n nothing) = ⊥
 BookRefusal (refused n (byte b)) = (1 ≤ n) × (n ≤ 7)
 BookRefusal (refused n (rule i)) = ⊥
 
-abbrev Small : Next → Type 0
-Small (go s) = Unit {0}
-Small (refuse n) = (1 ≤ n) × (n ≤ 7)
+-- a step's refusal is one of them
+abbrev Small : {A : Type 0} → Outcome A → Type 0
+Small (result x) = Unit {0}
+Small (refused n p) = (1 ≤ n) × (n ≤ 7)
 
--- a test that refuses or goes on
-small-test : (t : Bool) (n : Next) (m : ℕ) → Small n → 1 ≤ m → m ≤ 7 → Small (elim t as (λ x. Next) [ true ↦ n | false ↦ refuse m ])
-small-test true n m s a b = s
-small-test false n m s a b = (a, b)
+small-provided : {A : Type 0} (n : ℕ) (t : Bool) (o : Outcome A) → Small o → 1 ≤ n → n ≤ 7 → Small (provided n t o)
+small-provided n true o s a b = s
+small-provided n false o s a b = (a, b)
 
-small-fault : (r : Rule) → fault r ≤ 7
-small-fault r = by (eqb (length (r .pattern)) 0) (ltb (r .place) (length (r .pattern))) (eqb (getD (r .pattern) (r .place) 0) (r .tag))
-  where
-    by : (a b c : Bool)
-        → elim a as (λ x. ℕ) [ true ↦ 3 | false ↦ elim b as (λ x. ℕ) [ false ↦ 5 | true ↦ elim c as (λ x. ℕ) [ true ↦ 6 | false ↦ 0 ] ] ] ≤ 7
-    by true b c = omega arith
-    by false false c = omega arith
-    by false true true = omega arith
-    by false true false = omega arith
+small-then : {A B : Type 0} (o : Outcome A) (f : A → Outcome B) → Small o → ((x : A) → Small (f x)) → Small (andThen o f)
+small-then (result x) f s g = g x
+small-then (refused n p) f s g = s
 
-small-unless : (m : ℕ) (n : Next) → m ≤ 7 → Small n → Small (unless m n)
-small-unless zero n h s = s
-small-unless (suc m) n h s = (omega arith, h)
-
-small-closing : (rs : List Rule) (n : Next) → Small n → Small (unless (closing rs) n)
-small-closing [] n s = s
-small-closing (r ∷ rs) n s = small-unless (fault r) n (small-fault r) s
+small-closing : (rs : List Rule) → Small (closing rs)
+small-closing [] = tt
+small-closing (r ∷ rs) =
+    small-provided 3 (ltb 0 (length (r .pattern))) _
+    (small-provided 5 (ltb (r .place) (length (r .pattern))) _
+    (small-provided 6 (not (eqb (getD (r .pattern) (r .place) 0) (r .tag))) (result tt) tt (omega arith) (omega arith)) (omega arith) (omega arith))
+    (omega arith)
+    (omega arith)
 
 small-tag : (k : ℕ) (rs : List Rule) → Small (nextTag k rs)
 small-tag k [] = (omega arith, omega arith)
-small-tag k (r ∷ rs) = small-test (ltb (length (r .pattern)) longest-pattern) (go (pattern-tag k r rs)) 3 tt (omega arith) (omega arith)
+small-tag k (r ∷ rs) = small-provided 3 (ltb (length (r .pattern)) longest-pattern) (result (pattern-tag k r rs)) tt (omega arith) (omega arith)
 
 small-command : (k : ℕ) (rs : List Rule) (b : ℕ) → Small (commandStep k rs b)
 small-command k rs b = by (eqb b 0x00) (eqb b 0x21) (eqb b 0x22)
   where
     by : (x y z : Bool)
-        → Small
-        (elim x as (λ t. Next) [ true ↦ unless (closing rs) (go (ended k rs)) | false ↦ elim y as (λ t. Next) [ true ↦ unless (closing rs) (nextRule k rs) | false ↦ elim z as (λ t. Next) [ true ↦ nextTag k rs | false ↦ refuse 1 ] ] ])
-    by true y z = small-closing rs (go (ended k rs)) tt
+        → Small {A = Stage}
+        (elim x as (λ t. Outcome Stage) [ true ↦ andThen (closing rs) (λ u. result (ended k rs)) | false ↦ elim y as (λ t. Outcome Stage) [ true ↦ andThen (closing rs) (λ u. nextRule k rs) | false ↦ elim z as (λ t. Outcome Stage) [ true ↦ nextTag k rs | false ↦ refused 1 nothing ] ] ])
+    by true y z = small-then (closing rs) (λ u. result (ended k rs)) (small-closing rs) (λ u. tt)
     by false true z =
-        small-closing rs (nextRule k rs) (small-test (ltb (length rs) most-rules) (go (place k rs)) 7 tt (omega arith) (omega arith))
+        small-then (closing rs) (λ u. nextRule k rs) (small-closing rs)
+        (λ u. small-provided 7 (ltb (length rs) most-rules) (result (place k rs)) tt (omega arith) (omega arith))
     by false false true = small-tag k rs
     by false false false = (omega arith, omega arith)
 
 small-step : (s : Stage) (b : ℕ) → Small (step s b)
-small-step opening b = small-test (eqb b 0x20) (go size) 1 tt (omega arith) (omega arith)
-small-step size b = small-test (leb fewest-tags b && leb b most-tags) (go (command b [])) 2 tt (omega arith) (omega arith)
+small-step opening b = small-provided 1 (eqb b 0x20) (result size) tt (omega arith) (omega arith)
+small-step size b = small-provided 2 (leb fewest-tags b && leb b most-tags) (result (command b [])) tt (omega arith) (omega arith)
 small-step (command k rs) b = small-command k rs b
 small-step (place k rs) b = tt
-small-step (new-tag k rs p) b = small-test (ltb b k) _ 4 tt (omega arith) (omega arith)
-small-step (pattern-tag k r rs) b = small-test (ltb b k) _ 4 tt (omega arith) (omega arith)
+small-step (new-tag k rs p) b = small-provided 4 (ltb b k) (result (command k (opened p b ∷ rs))) tt (omega arith) (omega arith)
+small-step (pattern-tag k r rs) b = small-provided 4 (ltb b k) (result (command k (longer r b ∷ rs))) tt (omega arith) (omega arith)
 small-step (ended k rs) b = (omega arith, omega arith)
 
 refusal-from : (s : Stage) (at : ℕ) (bs : List ℕ) → BookRefusal (readFrom s at bs)
@@ -79,10 +74,10 @@ refusal-from (pattern-tag k r rs) at [] = (omega arith, omega arith)
 refusal-from (ended k rs) at [] = tt
 refusal-from s at (b ∷ bs) = by (step s b) (small-step s b) (λ s'. refusal-from s' (suc at) bs)
   where
-    by : (n : Next) → Small n → ((s' : Stage) → BookRefusal (readFrom s' (suc at) bs))
-        → BookRefusal (elim n as (λ x. Outcome Cascade) [ go s' ↦ readFrom s' (suc at) bs | refuse m ↦ refused m (byte at) ])
-    by (go s') h f = f s'
-    by (refuse m) h f = h
+    by : (o : Outcome Stage) → Small o → ((s' : Stage) → BookRefusal (readFrom s' (suc at) bs))
+        → BookRefusal (elim o as (λ x. Outcome Cascade) [ result s' ↦ readFrom s' (suc at) bs | refused m p ↦ refused m (byte at) ])
+    by (result s') h f = f s'
+    by (refused m p) h f = h
 
 pub book-refusal : (bytes : List ℕ) → BookRefusal (read bytes)
 book-refusal bytes = refusal-from opening 0 bytes

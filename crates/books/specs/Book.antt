@@ -3,14 +3,14 @@ use Prim.Native.Nat.{ℕ, _≤_}
 use mathlib.Core.List.{List, [], _∷_, _++_}
 use lib.ListN.{length}
 use Rattle.limits.specs.Limits.{fewest-tags, most-tags, most-rules, longest-pattern}
-use Rattle.cascades.specs.Rule.{Rule, Cascade, ValidRules}
+use Rattle.cascades.specs.Rule.{Rule, Cascade, ValidCascade}
 
 -- "K 2 to 48; at most 16 rules", each with "a pattern u of 1 to 6 tags"
 pub record Valid (b : Cascade) : Type 0 where
   pub enough-tags : fewest-tags ≤ b .tags
   pub few-tags : b .tags ≤ most-tags
   pub few-rules : length (b .rules) ≤ most-rules
-  pub rules-valid : ValidRules longest-pattern (b .tags) (b .rules)
+  pub rules-valid : ValidCascade longest-pattern b
 
 -- "22, then a tag (1 byte). The next tag of the pattern"
 abbrev pub encodePattern : List ℕ → List ℕ

@@ -1,6 +1,6 @@
 -- The bytes of a book.
 pub mod Book
 pub mod Read
-pub mod Kept
+pub mod Arrays
 pub mod Answer
 pub mod Resume

@@ -1,12 +1,12 @@
 -- What reading a list of bytes as a book gives: the cascade, or the refusal at the earliest byte. Byte by byte, so that no later byte
 -- can decide. The theorem in proofs/Encode.antt says that exactly the encodings of valid cascades are read.
-use Prim.Native.Nat.{ℕ, zero, suc}
-use mathlib.Core.Bool.{true, false, _&&_}
+use Prim.Native.Nat.{ℕ, suc}
+use mathlib.Core.Bool.{true, false, not, _&&_}
 use mathlib.Core.List.{List, [], _∷_, _++_, reverse}
 use lib.Dec.{eqb, leb, ltb}
 use lib.ListN.{length, getD}
 use Rattle.limits.specs.Limits.{fewest-tags, most-tags, most-rules, longest-pattern}
-use Rattle.answers.specs.Outcome.{Outcome, result, refused, byte}
+use Rattle.answers.specs.Outcome.{Outcome, result, refused, nothing, byte, andThen, provided}
 use Rattle.cascades.specs.Rule.{Rule, Cascade}
 
 -- what the next byte is. Rules are kept last first: the first one here is open
@@ -19,56 +19,40 @@ pub data Stage : Type 0 where
   pattern-tag : ℕ → Rule → List Rule → Stage
   ended : ℕ → List Rule → Stage
 
-pub data Next : Type 0 where
-  go : Stage → Next
-  refuse : ℕ → Next
+-- "At a closing 3, 5 and 6 come in that order". 3: pattern empty; 5: p not below the pattern's length; 6: new tag equals the tag at p
+abbrev pub closed : Rule → Outcome (Unit {0})
+closed r =
+    provided 3 (ltb 0 (length (r .pattern)))
+    (provided 5 (ltb (r .place) (length (r .pattern))) (provided 6 (not (eqb (getD (r .pattern) (r .place) 0) (r .tag))) (result tt)))
 
--- "At a closing 3, 5 and 6 come in that order". 3: pattern empty; 5: p not below the pattern's length; 6: new tag equals the tag at p.
--- 0 for none
-abbrev pub fault : Rule → ℕ
-fault r =
-    elim (eqb (length (r .pattern)) 0) [
-      | true ↦ 3
-      | false ↦
-          elim (ltb (r .place) (length (r .pattern))) [
-            | false ↦ 5
-            | true ↦ elim (eqb (getD (r .pattern) (r .place) 0) (r .tag)) [ true ↦ 6 | false ↦ 0 ]
-          ]
-    ]
-
-abbrev pub closing : List Rule → ℕ
-closing [] = 0
-closing (r ∷ rs) = fault r
-
-abbrev pub unless : ℕ → Next → Next
-unless zero next = next
-unless (suc n) next = refuse (suc n)
+abbrev pub closing : List Rule → Outcome (Unit {0})
+closing [] = result tt
+closing (r ∷ rs) = closed r
 
 -- 22: out of place if no rule is open; a seventh is 3
-abbrev pub nextTag : ℕ → List Rule → Next
-nextTag k [] = refuse 1
-nextTag k (r ∷ rs) =
-    elim (ltb (length (r .pattern)) longest-pattern) [ true ↦ go (pattern-tag k r rs) | false ↦ refuse 3 ]
+abbrev pub nextTag : ℕ → List Rule → Outcome Stage
+nextTag k [] = refused 1 nothing
+nextTag k (r ∷ rs) = provided 3 (ltb (length (r .pattern)) longest-pattern) (result (pattern-tag k r rs))
 
 -- 21: "all before 7", a seventeenth 21
-abbrev pub nextRule : ℕ → List Rule → Next
-nextRule k rs = elim (ltb (length rs) most-rules) [ true ↦ go (place k rs) | false ↦ refuse 7 ]
+abbrev pub nextRule : ℕ → List Rule → Outcome Stage
+nextRule k rs = provided 7 (ltb (length rs) most-rules) (result (place k rs))
 
 -- "command unknown or out of place" is 1
-abbrev pub commandStep : ℕ → List Rule → ℕ → Next
+abbrev pub commandStep : ℕ → List Rule → ℕ → Outcome Stage
 commandStep k rs b =
     elim (eqb b 0x00) [
-      | true ↦ unless (closing rs) (go (ended k rs))
+      | true ↦ andThen (closing rs) (λ x. result (ended k rs))
       | false ↦
           elim (eqb b 0x21) [
-            | true ↦ unless (closing rs) (nextRule k rs)
-            | false ↦ elim (eqb b 0x22) [ true ↦ nextTag k rs | false ↦ refuse 1 ]
+            | true ↦ andThen (closing rs) (λ x. nextRule k rs)
+            | false ↦ elim (eqb b 0x22) [ true ↦ nextTag k rs | false ↦ refused 1 nothing ]
           ]
     ]
 
 -- a tag that is not below K is 4
-abbrev pub below : ℕ → ℕ → Stage → Next
-below k b next = elim (ltb b k) [ true ↦ go next | false ↦ refuse 4 ]
+abbrev pub below : ℕ → ℕ → Stage → Outcome Stage
+below k b next = provided 4 (ltb b k) (result next)
 
 abbrev pub opened : ℕ → ℕ → Rule
 opened p t = record { pattern = []; place = p; tag = t }
@@ -76,15 +60,15 @@ opened p t = record { pattern = []; place = p; tag = t }
 abbrev pub longer : Rule → ℕ → Rule
 longer r a = record { pattern = r .pattern ++ (a ∷ []); place = r .place; tag = r .tag }
 
--- K outside 2 to 48 is 2; a byte after 00 is 1
-abbrev pub step : Stage → ℕ → Next
-step opening b = elim (eqb b 0x20) [ true ↦ go size | false ↦ refuse 1 ]
-step size b = elim (leb fewest-tags b && leb b most-tags) [ true ↦ go (command b []) | false ↦ refuse 2 ]
+-- the stage after a byte, or the number of the refusal: K outside 2 to 48 is 2; a byte after 00 is 1
+abbrev pub step : Stage → ℕ → Outcome Stage
+step opening b = provided 1 (eqb b 0x20) (result size)
+step size b = provided 2 (leb fewest-tags b && leb b most-tags) (result (command b []))
 step (command k rs) b = commandStep k rs b
-step (place k rs) b = go (new-tag k rs b)
+step (place k rs) b = result (new-tag k rs b)
 step (new-tag k rs p) b = below k b (command k (opened p b ∷ rs))
 step (pattern-tag k r rs) b = below k b (command k (longer r b ∷ rs))
-step (ended k rs) b = refuse 1
+step (ended k rs) b = refused 1 nothing
 
 -- "bytes missing" is 1; "The end of the bytes counts as a place after the last"
 abbrev pub finish : Stage → ℕ → Outcome Cascade
@@ -96,10 +80,10 @@ finish (new-tag k rs p) at = refused 1 (byte at)
 finish (pattern-tag k r rs) at = refused 1 (byte at)
 finish (ended k rs) at = result (record { tags = k; rules = reverse rs })
 
--- "In a book the refusal at the earliest byte is given"
+-- "In a book the refusal at the earliest byte is given", and names it
 abbrev pub readFrom : Stage → ℕ → List ℕ → Outcome Cascade
 readFrom s at [] = finish s at
-readFrom s at (b ∷ bs) = elim (step s b) [ go s' ↦ readFrom s' (suc at) bs | refuse n ↦ refused n (byte at) ]
+readFrom s at (b ∷ bs) = elim (step s b) [ result s' ↦ readFrom s' (suc at) bs | refused n p ↦ refused n (byte at) ]
 
 abbrev pub read : List ℕ → Outcome Cascade
 read bytes = readFrom opening 0 bytes

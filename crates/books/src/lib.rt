@@ -1,5 +1,6 @@
 // Books: reading their bytes.
 use answers::Refusal;
+use cascades::Rule;
 use limits::PATTERN;
 use limits::RULES;
 use words::wide;
@@ -8,10 +9,18 @@ ghost use Prim.Native.Nat.{_+_, _≤_, _<_};
 ghost use lib.ListN.{length, getD};
 ghost use Rattle.answers.specs.declared.Refusal.the-variants.{AtByte};
 ghost use Rattle.limits.specs.Limits.{most-rules};
+ghost use Rattle.cascades.specs.Value.{ruleOf, Formed};
 ghost use Rattle.books.specs.Read.{read, closing};
-ghost use Rattle.books.specs.Kept.{Kept, arrays, Shaped, rulesDown};
+ghost use Rattle.books.specs.Arrays.{Arrays, arrays, Shaped, rulesDown, ruleAt};
 ghost use Rattle.books.specs.Answer.{sizes, bookOutcome};
-ghost use Rattle.books.specs.Resume.{Resumes, Reads, Whole, readCommands, cascadeOutcome};
+ghost use Rattle.books.specs.Resume.{Resumes, Reads, Whole, readCommands, cascadeOutcome, faulted};
+
+// What a rule's head holds: its place and its new tag.
+pub const HEAD: usize = 2;
+
+const PLACE: usize = 0;
+
+const TAG: usize = 1;
 
 pub enum BookAnswer {
     Book { tags: u8, rules: usize },
@@ -28,13 +37,12 @@ fn refused(number: u8, byte: usize) -> BookAnswer
 fn closing_fault(
     rows: &[[u8; PATTERN]; RULES],
     lengths: &[usize; RULES],
-    places: &[u8; RULES],
-    tags: &[u8; RULES],
+    heads: &[[u8; HEAD]; RULES],
     m: usize,
 ) -> u8
-    requires { ⌜ Shaped (arrays rows lengths places tags) ⌝ }
+    requires { ⌜ Shaped (arrays rows lengths heads) ⌝ }
     requires { ⌜ m ≤ most-rules ⌝ }
-    ensures { λ r. ⌜ r ≡ closing (rulesDown (arrays (rows .entry) (lengths .entry) (places .entry) (tags .entry)) m) ⌝ }
+    ensures { λ r. ⌜ closing (rulesDown (arrays (rows .entry) (lengths .entry) (heads .entry)) m) ≡ faulted r ⌝ }
 {
     if m == 0 {
         return 0;
@@ -44,11 +52,11 @@ fn closing_fault(
     if n == 0 {
         return 3;
     }
-    let p = wide(places[last]);
+    let p = wide(heads[last][PLACE]);
     if n <= p {
         return 5;
     }
-    if rows[last][p] == tags[last] {
+    if rows[last][p] == heads[last][TAG] {
         return 6;
     }
     0
@@ -56,7 +64,7 @@ fn closing_fault(
 
 // 20 and K.
 fn open_book(s: &[u8]) -> BookAnswer
-    ensures { λ r. ⌜ ((a : Kept) → Shaped a → Resumes (now (s .entry)) (read (now (s .entry))) 2 a r) ⌝ }
+    ensures { λ r. ⌜ ((a : Arrays) → Shaped a → Resumes (now (s .entry)) (read (now (s .entry))) 2 a r) ⌝ }
 {
     if s.len() == 0 {
         return refused(1, 0);
@@ -86,14 +94,13 @@ fn end_book(
     m: usize,
     rows: &[[u8; PATTERN]; RULES],
     lengths: &[usize; RULES],
-    places: &[u8; RULES],
-    tags: &[u8; RULES],
+    heads: &[[u8; HEAD]; RULES],
 ) -> BookAnswer
-    requires { ⌜ Shaped (arrays rows lengths places tags) ⌝ }
+    requires { ⌜ Shaped (arrays rows lengths heads) ⌝ }
     requires { ⌜ (m ≤ most-rules) × (at < length (now s)) × (getD (now s) at 0 ≡ 0) ⌝ }
-    ensures { λ r. ⌜ cascadeOutcome r (arrays (rows .entry) (lengths .entry) (places .entry) (tags .entry)) ≡ readCommands (now (s .entry)) k m (arrays (rows .entry) (lengths .entry) (places .entry) (tags .entry)) at ⌝ }
+    ensures { λ r. ⌜ cascadeOutcome r (arrays (rows .entry) (lengths .entry) (heads .entry)) ≡ readCommands (now (s .entry)) k m (arrays (rows .entry) (lengths .entry) (heads .entry)) at ⌝ }
 {
-    let fault = closing_fault(rows, lengths, places, tags, m);
+    let fault = closing_fault(rows, lengths, heads, m);
     if fault != 0 {
         return refused(fault, at);
     }
@@ -112,14 +119,13 @@ fn open_rule(
     m: usize,
     rows: &[[u8; PATTERN]; RULES],
     lengths: &mut [usize; RULES],
-    places: &mut [u8; RULES],
-    tags: &mut [u8; RULES],
+    heads: &mut [[u8; HEAD]; RULES],
 ) -> BookAnswer
-    requires { ⌜ Shaped (arrays rows lengths places tags) ⌝ }
+    requires { ⌜ Shaped (arrays rows lengths heads) ⌝ }
     requires { ⌜ (m ≤ most-rules) × (at < length (now s)) × (getD (now s) at 0 ≡ 0x21) ⌝ }
-    ensures { λ r. ⌜ Resumes (now (s .entry)) (readCommands (now (s .entry)) k m (arrays (rows .entry) (lengths .entry) (places .entry) (tags .entry)) at) (at + 1 + 1 + 1) (arrays (rows .entry) (lengths .exit) (places .exit) (tags .exit)) r ⌝ }
+    ensures { λ r. ⌜ Resumes (now (s .entry)) (readCommands (now (s .entry)) k m (arrays (rows .entry) (lengths .entry) (heads .entry)) at) (at + 1 + 1 + 1) (arrays (rows .entry) (lengths .exit) (heads .exit)) r ⌝ }
 {
-    let fault = closing_fault(rows, lengths, places, tags, m);
+    let fault = closing_fault(rows, lengths, heads, m);
     if fault != 0 {
         return refused(fault, at);
     }
@@ -139,8 +145,7 @@ fn open_rule(
         return refused(4, second);
     }
     lengths[m] = 0;
-    places[m] = s[first];
-    tags[m] = tag;
+    heads[m] = [s[first], tag];
     BookAnswer::Book {
         tags: k,
         rules: m + 1,
@@ -155,12 +160,11 @@ fn add_tag(
     m: usize,
     rows: &mut [[u8; PATTERN]; RULES],
     lengths: &mut [usize; RULES],
-    places: &[u8; RULES],
-    tags: &[u8; RULES],
+    heads: &[[u8; HEAD]; RULES],
 ) -> BookAnswer
-    requires { ⌜ Shaped (arrays rows lengths places tags) ⌝ }
+    requires { ⌜ Shaped (arrays rows lengths heads) ⌝ }
     requires { ⌜ (m ≤ most-rules) × (at < length (now s)) × (getD (now s) at 0 ≡ 0x22) ⌝ }
-    ensures { λ r. ⌜ Resumes (now (s .entry)) (readCommands (now (s .entry)) k m (arrays (rows .entry) (lengths .entry) (places .entry) (tags .entry)) at) (at + 1 + 1) (arrays (rows .exit) (lengths .exit) (places .entry) (tags .entry)) r ⌝ }
+    ensures { λ r. ⌜ Resumes (now (s .entry)) (readCommands (now (s .entry)) k m (arrays (rows .entry) (lengths .entry) (heads .entry)) at) (at + 1 + 1) (arrays (rows .exit) (lengths .exit) (heads .entry)) r ⌝ }
 {
     if m == 0 {
         return refused(1, at);
@@ -191,15 +195,14 @@ fn read_rule(
     m: usize,
     rows: &[[u8; PATTERN]; RULES],
     lengths: &mut [usize; RULES],
-    places: &mut [u8; RULES],
-    tags: &mut [u8; RULES],
+    heads: &mut [[u8; HEAD]; RULES],
 ) -> BookAnswer
-    requires { ⌜ Shaped (arrays rows lengths places tags) ⌝ }
+    requires { ⌜ Shaped (arrays rows lengths heads) ⌝ }
     requires { ⌜ (m ≤ most-rules) × (at < length (now s)) × (getD (now s) at 0 ≡ 0 → ⊥) × (getD (now s) at 0 ≡ 0x22 → ⊥) ⌝ }
-    ensures { λ r. ⌜ Resumes (now (s .entry)) (readCommands (now (s .entry)) k m (arrays (rows .entry) (lengths .entry) (places .entry) (tags .entry)) at) (at + 1 + 1 + 1) (arrays (rows .entry) (lengths .exit) (places .exit) (tags .exit)) r ⌝ }
+    ensures { λ r. ⌜ Resumes (now (s .entry)) (readCommands (now (s .entry)) k m (arrays (rows .entry) (lengths .entry) (heads .entry)) at) (at + 1 + 1 + 1) (arrays (rows .entry) (lengths .exit) (heads .exit)) r ⌝ }
 {
     if s[at] == 0x21 {
-        return open_rule(s, at, k, m, rows, lengths, places, tags);
+        return open_rule(s, at, k, m, rows, lengths, heads);
     }
     refused(1, at)
 }
@@ -211,12 +214,11 @@ fn read_commands(
     m0: usize,
     rows: &mut [[u8; PATTERN]; RULES],
     lengths: &mut [usize; RULES],
-    places: &mut [u8; RULES],
-    new: &mut [u8; RULES],
+    heads: &mut [[u8; HEAD]; RULES],
 ) -> BookAnswer
-    requires { ⌜ Shaped (arrays rows lengths places new) ⌝ }
+    requires { ⌜ Shaped (arrays rows lengths heads) ⌝ }
     requires { ⌜ (m0 ≤ most-rules) × (2 ≤ length (now s)) ⌝ }
-    ensures { λ r. ⌜ Reads (readCommands (now (s .entry)) k0 m0 (arrays (rows .entry) (lengths .entry) (places .entry) (new .entry)) 2) (arrays (rows .exit) (lengths .exit) (places .exit) (new .exit)) r ⌝ }
+    ensures { λ r. ⌜ Reads (readCommands (now (s .entry)) k0 m0 (arrays (rows .entry) (lengths .entry) (heads .entry)) 2) (arrays (rows .exit) (lengths .exit) (heads .exit)) r ⌝ }
 {
     let mut k = k0;
     let mut m = m0;
@@ -224,7 +226,7 @@ fn read_commands(
     while at < s.len() {
         let command = s[at];
         if command == 0x22 {
-            let got = add_tag(s, at, k, m, rows, lengths, places, new);
+            let got = add_tag(s, at, k, m, rows, lengths, heads);
             let BookAnswer::Book { tags, rules } = got else {
                 return got;
             };
@@ -234,9 +236,9 @@ fn read_commands(
             continue;
         }
         if command == 0 {
-            return end_book(s, at, k, m, rows, lengths, places, new);
+            return end_book(s, at, k, m, rows, lengths, heads);
         }
-        let got = read_rule(s, at, k, m, rows, lengths, places, new);
+        let got = read_rule(s, at, k, m, rows, lengths, heads);
         let BookAnswer::Book { tags, rules } = got else {
             return got;
         };
@@ -247,22 +249,41 @@ fn read_commands(
     refused(1, at)
 }
 
-// Reads a book into the caller's arrays: a pattern a row, its length, place and new tag beside.
+// Reads a book into the caller's arrays: a pattern a row, its length and its head beside.
 pub fn read_into(
     s: &[u8],
     rows: &mut [[u8; PATTERN]; RULES],
     lengths: &mut [usize; RULES],
-    places: &mut [u8; RULES],
-    new: &mut [u8; RULES],
+    heads: &mut [[u8; HEAD]; RULES],
 ) -> BookAnswer
-    requires { ⌜ Shaped (arrays rows lengths places new) ⌝ }
-    ensures { λ r. ⌜ Whole (now (s .entry)) (arrays (rows .exit) (lengths .exit) (places .exit) (new .exit)) r ⌝ }
+    requires { ⌜ Shaped (arrays rows lengths heads) ⌝ }
+    ensures { λ r. ⌜ Whole (now (s .entry)) (arrays (rows .exit) (lengths .exit) (heads .exit)) r ⌝ }
 {
     let opened = open_book(s);
     let BookAnswer::Book { tags, rules } = opened else {
         return opened;
     };
-    read_commands(s, tags, rules, rows, lengths, places, new)
+    read_commands(s, tags, rules, rows, lengths, heads)
+}
+
+// The rule i of the arrays.
+pub fn rule_at(
+    rows: &[[u8; PATTERN]; RULES],
+    lengths: &[usize; RULES],
+    heads: &[[u8; HEAD]; RULES],
+    i: usize,
+) -> Rule
+    requires { ⌜ Shaped (arrays rows lengths heads) ⌝ }
+    requires { ⌜ i < most-rules ⌝ }
+    ensures { λ r. ⌜ (ruleOf r ≡ ruleAt (arrays (rows .entry) (lengths .entry) (heads .entry)) i) × Formed r ⌝ }
+{
+    let row = rows[i];
+    Rule {
+        row,
+        length: lengths[i],
+        place: wide(heads[i][PLACE]),
+        tag: heads[i][TAG],
+    }
 }
 
 // K and the number of rules, or the refusal with its byte.
@@ -271,7 +292,6 @@ pub fn read_book(book: &[u8]) -> BookAnswer
 {
     let mut rows = [[0u8; PATTERN]; RULES];
     let mut lengths = [0usize; RULES];
-    let mut places = [0u8; RULES];
-    let mut tags = [0u8; RULES];
-    read_into(book, &mut rows, &mut lengths, &mut places, &mut tags)
+    let mut heads = [[0u8; HEAD]; RULES];
+    read_into(book, &mut rows, &mut lengths, &mut heads)
 }

@@ -13,7 +13,7 @@ use lib.Seq.{drop-cons, drop-length, take-suc, length-take-le, set-append-left}
 use Rattle.words.specs.Word.{prefix}
 use Rattle.words.proofs.Word.{prefix-split}
 use Rattle.cascades.specs.Rule.{Rule, replaced}
-use Rattle.cascades.specs.Rewrite.{rewrite, apply, behavior}
+use Rattle.cascades.specs.Rewrite.{rewrite, apply, applyAll}
 
 -- ---- the test at a place
 
@@ -103,9 +103,9 @@ search-found u s p t i f hp hi e =
 
 -- ---- cascades
 
-pub behavior-append : (rs more : List Rule) (w : List ℕ) → behavior (rs ++ more) w ≡ behavior more (behavior rs w)
-behavior-append [] more w = refl
-behavior-append (r ∷ rs) more w = behavior-append rs more (apply r w)
+pub applyAll-append : (rs more : List Rule) (w : List ℕ) → applyAll (rs ++ more) w ≡ applyAll more (applyAll rs w)
+applyAll-append [] more w = refl
+applyAll-append (r ∷ rs) more w = applyAll-append rs more (apply r w)
 
 rewrite-long : (u v w : List ℕ) → length v ≡ length u → length (rewrite u v w) ≡ length w
 rewrite-long u v [] e = refl
@@ -122,7 +122,7 @@ rewrite-long u v (a ∷ w) e = test (prefix u (a ∷ w)) refl (rewrite-long u v 
     test false p h = ap suc h
 
 -- a rule keeps the number of tags, and so does a cascade
-pub behavior-long : (rs : List Rule) (w : List ℕ) → length (behavior rs w) ≡ length w
-behavior-long [] w = refl
-behavior-long (r ∷ rs) w =
-    behavior-long rs (apply r w) ∙ rewrite-long (r .pattern) (replaced r) w (length-set (r .pattern) (r .place) (r .tag))
+pub applyAll-long : (rs : List Rule) (w : List ℕ) → length (applyAll rs w) ≡ length w
+applyAll-long [] w = refl
+applyAll-long (r ∷ rs) w =
+    applyAll-long rs (apply r w) ∙ rewrite-long (r .pattern) (replaced r) w (length-set (r .pattern) (r .place) (r .tag))

@@ -4,7 +4,7 @@ use mathlib.Core.Bool.{Bool, true, false}
 use mathlib.Core.List.{List, [], _∷_, _++_}
 use lib.ListN.{length, drop}
 use Rattle.words.specs.Word.{prefix}
-use Rattle.cascades.specs.Rule.{Rule, replaced}
+use Rattle.cascades.specs.Rule.{Rule, replaced, Cascade}
 
 -- "If u occurs in a sentence, its leftmost occurrence becomes v, once; otherwise the sentence is unchanged".
 -- The theorem in proofs/Leftmost.antt says that this is 002's leftmost rewrite relation
@@ -15,7 +15,11 @@ rewrite u v (a ∷ w) = elim (prefix u (a ∷ w)) [ true ↦ v ++ drop (length u
 abbrev pub apply : Rule → List ℕ → List ℕ
 apply r w = rewrite (r .pattern) (replaced r) w
 
--- "A book applies its rules in order, each to the result of the one before"; 002's behavior of a cascade
-abbrev pub behavior : List Rule → List ℕ → List ℕ
-behavior [] w = w
-behavior (r ∷ rs) w = behavior rs (apply r w)
+-- "A book applies its rules in order, each to the result of the one before"
+abbrev pub applyAll : List Rule → List ℕ → List ℕ
+applyAll [] w = w
+applyAll (r ∷ rs) w = applyAll rs (apply r w)
+
+-- 002's behavior of a cascade
+abbrev pub behavior : Cascade → List ℕ → List ℕ
+behavior c w = applyAll (c .rules) w

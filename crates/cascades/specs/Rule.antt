@@ -2,7 +2,7 @@
 use Prim.Native.Nat.{ℕ, _≤_, _<_}
 use mathlib.Core.Path.{_≡_}
 use mathlib.Core.List.{List, [], _∷_}
-use lib.ListN.{length, getD, set}
+use lib.ListN.{length, take, getD, set}
 use Rattle.words.specs.Word.{Below}
 
 -- "A rule has a pattern u of 1 to 6 tags, a place p counted from 0, and a new tag"
@@ -31,3 +31,15 @@ ValidRules l k (r ∷ rs) = ValidRule l k r × ValidRules l k rs
 pub record Cascade : Type 0 where
   pub tags : ℕ
   pub rules : List Rule
+
+-- the same with other rules
+abbrev pub having : Cascade → List Rule → Cascade
+having c rs = record { tags = c .tags; rules = rs }
+
+-- "A leading part is the first i rules taken as a book"
+abbrev pub leading : ℕ → Cascade → Cascade
+leading i c = having c (take i (c .rules))
+
+-- its rules are valid for its tags, with at most l of them in a pattern
+abbrev pub ValidCascade : ℕ → Cascade → Type 0
+ValidCascade l c = ValidRules l (c .tags) (c .rules)

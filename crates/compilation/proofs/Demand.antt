@@ -14,9 +14,9 @@ use Rattle.books.proofs.Encode.{reads-exactly}
 use Rattle.transducers.specs.Table.{Table}
 use Rattle.minimal.specs.TableOf.{tableOf}
 use Rattle.tables.specs.Bytes.{encode}
-use Rattle.compilation.specs.Compile.{fitting, compileAnswer}
+use Rattle.compilation.specs.Compile.{fitting, built, compileAnswer}
 use Rattle.compilation.specs.Demand.{PartNeedsMore, Shortest, Alike, Premises, SmallestTable, Compiled, Named}
-use Rattle.compilation.proofs.Answer.{Told, fits, exceeds, told, premises-answer, Ends, names-nothing, names-byte, goes-on, ends}
+use Rattle.compilation.proofs.Answer.{Told, fits, exceeds, told, Tested, names-nothing, names-byte, goes-on, test, premises-answer}
 use Rattle.compilation.proofs.Parts.{needs-count, exceeds-shortest, shortest-exceeds, bytes-smallest, whole-few, told-named, told-exceeds, encode-alike, Made, some-made, made}
 
 module _ (book : List ℕ) (n work room : ℕ) where
@@ -34,30 +34,29 @@ module _ (book : List ℕ) (n work room : ℕ) where
   refused-10 i = (to, from)
     where
       to : compileAnswer book n work room ≡ refused 10 (rule i) → Named book n work i
-      to = by (ends book n work room)
+      to = by (test book n work)
         where
-          by : {o : Outcome (List ℕ)} → Ends book n work room o → o ≡ refused 10 (rule i) → Named book n work i
+          by : {o : Outcome Cascade} → Tested book n work o → andThen o (built n room) ≡ refused 10 (rule i) → Named book n work i
           by (names-nothing j l m) e = let z : _≡_ {A = ℕ} 0 1 = cc in absurd (omega arith)
           by (names-byte j b l m) e = let z : _≡_ {A = ℕ} 0 1 = cc in absurd (omega arith)
-          by (goes-on c v p) e =
-              record { cascade = c; premises = p; shortest = exceeds-shortest c v n i (told-named c n room i (told (c .tags) n (c .rules)) e) }
+          by (goes-on c v p) e = record { cascade = c; premises = p; shortest = exceeds-shortest c v n i (told-named c n room i (told n c) e) }
 
       from : Named book n work i → compileAnswer book n work room ≡ refused 10 (rule i)
       from h =
           let c = h .cascade in
           let v = reads-exactly book c .0 (h .premises .reads) .0 in
           premises-answer book n work room c (h .premises)
-          ∙ told-exceeds c n room i (told (c .tags) n (c .rules)) (shortest-exceeds c v n i (h .shortest))
+          ∙ told-exceeds c n room i (told n c) (shortest-exceeds c v n i (h .shortest))
 
   module _ (c : Cascade) (p : Premises book n work c) where
     -- and it is given if any part needs more
     pub some-part : (j : ℕ) → PartNeedsMore c n j → (i : ℕ) × Shortest c n i × (compileAnswer book n work room ≡ refused 10 (rule i))
-    some-part j h = by (told (c .tags) n (c .rules)) (premises-answer book n work room c p)
+    some-part j h = by (told n c) (premises-answer book n work room c p)
       where
         v : Valid c
         v = reads-exactly book c .0 (p .reads) .0
 
-        by : {o : Outcome Table} → Told (c .tags) n (c .rules) o
+        by : {o : Outcome Table} → Told n c o
             → compileAnswer book n work room ≡ andThen o (λ t. fitting room (encode (c .tags) t))
             → (i : ℕ) × Shortest c n i × (compileAnswer book n work room ≡ refused 10 (rule i))
         by (fits f) e = absurd (omega (arith, f j (h .some) (h .inside), needs-count c v n j .0 (h .more)))
@@ -69,15 +68,15 @@ module _ (book : List ℕ) (n work room : ℕ) where
         × SmallestTable c bytes
         × (length bytes ≤ room → compileAnswer book n work room ≡ result bytes)
         × (room < length bytes → compileAnswer book n work room ≡ refused 11 nothing)
-    otherwise none = by (told (c .tags) n (c .rules)) (premises-answer book n work room c p)
+    otherwise none = by (told n c) (premises-answer book n work room c p)
       where
         v : Valid c
         v = reads-exactly book c .0 (p .reads) .0
 
         bytes : List ℕ
-        bytes = encode (c .tags) (tableOf (c .tags) (c .rules))
+        bytes = encode (c .tags) (tableOf c)
 
-        by : {o : Outcome Table} → Told (c .tags) n (c .rules) o
+        by : {o : Outcome Table} → Told n c o
             → compileAnswer book n work room ≡ andThen o (λ t. fitting room (encode (c .tags) t))
             → (bytes : List ℕ)
             × SmallestTable c bytes

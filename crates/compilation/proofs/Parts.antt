@@ -2,16 +2,16 @@
 use Prim.Native.Nat.{ℕ, suc, _-_, _≤_, _<_}
 use native.Mathlib.Omega.{arith}
 use native.Mathlib.Decide.{decLt}
-use mathlib.Core.Path.{_≡_, refl, sym, ap, _∙_, subst}
+use mathlib.Core.Path.{_≡_, refl, sym, ap, ap₂, _∙_, subst}
 use mathlib.Core.Logic.{_↔_}
 use mathlib.Core.Bool.{Bool, true, false}
 use mathlib.Core.List.{List, [], _∷_}
 use lib.Dec.{leb}
-use lib.ListN.{length, take}
+use lib.ListN.{length}
 use lib.Seq.{take-length}
 use Rattle.limits.specs.Limits.{longest-pattern, most-states}
-use Rattle.answers.specs.Outcome.{Outcome, result, refused, rule, andThen}
-use Rattle.cascades.specs.Rule.{Rule, Cascade, ValidRules}
+use Rattle.answers.specs.Outcome.{Outcome, result, refused, rule, andThen, provided}
+use Rattle.cascades.specs.Rule.{Rule, Cascade, having, leading}
 use Rattle.books.specs.Book.{Valid}
 use Rattle.books.specs.Read.{read}
 use Rattle.transducers.specs.Table.{Table}
@@ -21,73 +21,73 @@ use Rattle.tables.specs.Bytes.{encode}
 use Rattle.tables.specs.Decode.{Decoded, decode}
 use Rattle.tables.proofs.Theorem.{encoded}
 use Rattle.tables.proofs.Words.{number-bytes}
-use Rattle.compilation.specs.Compile.{unless, fitting, compileAnswer}
+use Rattle.compilation.specs.Compile.{fitting, built, compileAnswer}
 use Rattle.compilation.specs.Demand.{NeedsMore, PartNeedsMore, Shortest, Alike, Premises, SmallestTable}
-use Rattle.compilation.proofs.Answer.{Few, Exceeds, Told, fits, exceeds, told, table-valid, Ends, names-nothing, names-byte, goes-on, ends}
+use Rattle.compilation.proofs.Answer.{Few, Exceeds, Told, fits, exceeds, told, table-valid, Tested, names-nothing, names-byte, goes-on, test}
 
 -- ---- leading parts
 
 -- the first i rules need more than n states in every machine exactly if their table has more
-pub needs-count : (c : Cascade) → Valid c → (n i : ℕ) → NeedsMore (c .tags) n (take i (c .rules)) ↔ (n < length (tableOf (c .tags) (take i (c .rules))))
-needs-count c v n i = theorems.needs longest-pattern (c .tags) (c .rules) (v .rules-valid) i n
+pub needs-count : (c : Cascade) → Valid c → (n i : ℕ) → NeedsMore n (leading i c) ↔ (n < length (tableOf (leading i c)))
+needs-count c v n i = theorems.needs longest-pattern (leading i c) (theorems.valid-leading longest-pattern c (v .rules-valid) i) n
 
-exceeds-part : (c : Cascade) → Valid c → (n i : ℕ) → Exceeds (c .tags) n (c .rules) i → PartNeedsMore c n i
+exceeds-part : (c : Cascade) → Valid c → (n i : ℕ) → Exceeds n c i → PartNeedsMore c n i
 exceeds-part c v n i h = record { some = h .some; inside = h .inside; more = needs-count c v n i .1 (h .more) }
 
-pub exceeds-shortest : (c : Cascade) → Valid c → (n i : ℕ) → Exceeds (c .tags) n (c .rules) i → Shortest c n i
+pub exceeds-shortest : (c : Cascade) → Valid c → (n i : ℕ) → Exceeds n c i → Shortest c n i
 exceeds-shortest c v n i h = record { part = exceeds-part c v n i h; least = λ j p. least j p (decLt j i) }
   where
     least : (j : ℕ) → PartNeedsMore c n j → Dec (j < i) → i ≤ j
     least j p (yes l) = absurd (omega (arith, needs-count c v n j .0 (p .more), h .fewer j (p .some) (omega arith)))
     least j p (no l) = omega arith
 
-pub shortest-exceeds : (c : Cascade) → Valid c → (n i : ℕ) → Shortest c n i → Exceeds (c .tags) n (c .rules) i
+pub shortest-exceeds : (c : Cascade) → Valid c → (n i : ℕ) → Shortest c n i → Exceeds n c i
 shortest-exceeds c v n i h =
     record {
       some = h .part .some;
       inside = h .part .inside;
       more = needs-count c v n i .0 (h .part .more);
-      fewer = λ j a b. few j a b (decLt n (length (tableOf (c .tags) (take j (c .rules)))));
+      fewer = λ j a b. few j a b (decLt n (length (tableOf (leading j c))));
     }
   where
-    few : (j : ℕ) → 1 ≤ j → j ≤ i - 1 → Dec (n < length (tableOf (c .tags) (take j (c .rules)))) → length (tableOf (c .tags) (take j (c .rules))) ≤ n
+    few : (j : ℕ) → 1 ≤ j → j ≤ i - 1 → Dec (n < length (tableOf (leading j c))) → length (tableOf (leading j c)) ≤ n
     few j a b (yes m) =
         let p : PartNeedsMore c n j = record { some = a; inside = omega (arith, h .part .inside); more = needs-count c v n j .1 m } in
         absurd (omega (arith, h .least j p, h .part .some))
     few j a b (no m) = omega arith
 
-pub bytes-smallest : (c : Cascade) → Valid c → length (tableOf (c .tags) (c .rules)) ≤ most-states → SmallestTable c (encode (c .tags) (tableOf (c .tags) (c .rules)))
+pub bytes-smallest : (c : Cascade) → Valid c → length (tableOf c) ≤ most-states → SmallestTable c (encode (c .tags) (tableOf c))
 bytes-smallest c v few =
-    let t = tableOf (c .tags) (c .rules) in
+    let t = tableOf c in
     record {
       table = t;
       decodes = encoded (c .tags) t (table-valid c v few);
       carries = number-bytes (length t);
-      does = theorems.does longest-pattern (c .tags) (c .rules) (v .rules-valid);
-      smallest = theorems.smallest longest-pattern (c .tags) (c .rules) (v .rules-valid);
-      early = theorems.early longest-pattern (c .tags) (c .rules) (v .rules-valid);
-      numbered = theorems.numbered longest-pattern (c .tags) (c .rules) (v .rules-valid);
+      does = theorems.does longest-pattern c (v .rules-valid);
+      smallest = theorems.smallest longest-pattern c (v .rules-valid);
+      early = theorems.early longest-pattern c (v .rules-valid);
+      numbered = theorems.numbered longest-pattern c (v .rules-valid);
     }
 
 -- the whole of the rules is a leading part, unless there is no rule
-pub whole-few : (c : Cascade) (n : ℕ) → 1 ≤ n → Few (c .tags) n (c .rules) (length (c .rules)) → length (tableOf (c .tags) (c .rules)) ≤ n
+pub whole-few : (c : Cascade) (n : ℕ) → 1 ≤ n → Few n c (length (c .rules)) → length (tableOf c) ≤ n
 whole-few c n some f = by (c .rules) f
   where
-    by : (rs : List Rule) → Few (c .tags) n rs (length rs) → length (tableOf (c .tags) rs) ≤ n
+    by : (rs : List Rule) → Few n (having c rs) (length rs) → length (tableOf (having c rs)) ≤ n
     by [] f = some
-    by (r ∷ rs) f = subst (λ (x : List Rule). length (tableOf (c .tags) x) ≤ n) (take-length (r ∷ rs)) (f (suc (length rs)) (omega arith) (omega arith))
+    by (r ∷ rs) f = subst (λ (x : List Rule). length (tableOf (having c x)) ≤ n) (take-length (r ∷ rs)) (f (suc (length rs)) (omega arith) (omega arith))
 
 pub fitting-same : (room : ℕ) (b bytes : List ℕ) → fitting room b ≡ result bytes → bytes ≡ b
 fitting-same room b bytes = by (leb (length b) room)
   where
-    by : (t : Bool) → unless 11 t (result b) ≡ result bytes → bytes ≡ b
+    by : (t : Bool) → provided 11 t (result b) ≡ result bytes → bytes ≡ b
     by true e = cc
     by false e = cc
 
 fitting-unnamed : (room i : ℕ) (b : List ℕ) → fitting room b ≡ refused 10 (rule i) → ⊥
 fitting-unnamed room i b = by (leb (length b) room)
   where
-    by : (t : Bool) → unless 11 t (result b) ≡ refused 10 (rule i) → ⊥
+    by : (t : Bool) → provided 11 t (result b) ≡ refused 10 (rule i) → ⊥
     by true e = let z : _≡_ {A = ℕ} 0 1 = cc in omega arith
     by false e = let z : _≡_ {A = ℕ} 0 1 = cc in omega arith
 
@@ -95,16 +95,16 @@ module _ (c : Cascade) (n room : ℕ) where
   abbrev after : Outcome Table → Outcome (List ℕ)
   after o = andThen o (λ t. fitting room (encode (c .tags) t))
 
-  pub told-bytes : {o : Outcome Table} (bytes : List ℕ) → Told (c .tags) n (c .rules) o → after o ≡ result bytes
-      → Few (c .tags) n (c .rules) (length (c .rules)) × (bytes ≡ encode (c .tags) (tableOf (c .tags) (c .rules)))
-  told-bytes bytes (fits f) e = (f, fitting-same room (encode (c .tags) (tableOf (c .tags) (c .rules))) bytes e)
+  pub told-bytes : {o : Outcome Table} (bytes : List ℕ) → Told n c o → after o ≡ result bytes
+      → Few n c (length (c .rules)) × (bytes ≡ encode (c .tags) (tableOf c))
+  told-bytes bytes (fits f) e = (f, fitting-same room (encode (c .tags) (tableOf c)) bytes e)
   told-bytes bytes (exceeds i x) e = let z : _≡_ {A = ℕ} 0 1 = cc in absurd (omega arith)
 
-  pub told-named : {o : Outcome Table} (i : ℕ) → Told (c .tags) n (c .rules) o → after o ≡ refused 10 (rule i) → Exceeds (c .tags) n (c .rules) i
-  told-named i (fits f) e = absurd (fitting-unnamed room i (encode (c .tags) (tableOf (c .tags) (c .rules))) e)
-  told-named i (exceeds j x) e = let z : j ≡ i = cc in subst (Exceeds (c .tags) n (c .rules)) z x
+  pub told-named : {o : Outcome Table} (i : ℕ) → Told n c o → after o ≡ refused 10 (rule i) → Exceeds n c i
+  told-named i (fits f) e = absurd (fitting-unnamed room i (encode (c .tags) (tableOf c)) e)
+  told-named i (exceeds j x) e = let z : j ≡ i = cc in subst (Exceeds n c) z x
 
-  pub told-exceeds : {o : Outcome Table} (i : ℕ) → Told (c .tags) n (c .rules) o → Exceeds (c .tags) n (c .rules) i → after o ≡ refused 10 (rule i)
+  pub told-exceeds : {o : Outcome Table} (i : ℕ) → Told n c o → Exceeds n c i → after o ≡ refused 10 (rule i)
   told-exceeds i (fits f) x = absurd (omega (arith, f i (x .some) (x .inside), x .more))
   told-exceeds i (exceeds j y) x = by (decLt i j) (decLt j i)
     where
@@ -114,36 +114,26 @@ module _ (c : Cascade) (n room : ℕ) where
       by (no l) (no m) = let z : j ≡ i = omega arith in cc
 
 -- equal bytes are equal tables
-encode-one : (c d : Cascade) → Valid c → Valid d → length (tableOf (c .tags) (c .rules)) ≤ most-states → length (tableOf (d .tags) (d .rules)) ≤ most-states
-    → encode (c .tags) (tableOf (c .tags) (c .rules)) ≡ encode (d .tags) (tableOf (d .tags) (d .rules))
-    → tableOf (c .tags) (c .rules) ≡ tableOf (d .tags) (d .rules)
+encode-one : (c d : Cascade) → Valid c → Valid d → length (tableOf c) ≤ most-states → length (tableOf d) ≤ most-states
+    → encode (c .tags) (tableOf c) ≡ encode (d .tags) (tableOf d)
+    → tableOf c ≡ tableOf d
 encode-one c d v w l m b =
-    let x = encoded (c .tags) (tableOf (c .tags) (c .rules)) (table-valid c v l) in
-    let y = encoded (d .tags) (tableOf (d .tags) (d .rules)) (table-valid d w m) in
+    let x = encoded (c .tags) (tableOf c) (table-valid c v l) in
+    let y = encoded (d .tags) (tableOf d) (table-valid d w m) in
     table-of
-    (record { tags = c .tags; table = tableOf (c .tags) (c .rules) })
-    (record { tags = d .tags; table = tableOf (d .tags) (d .rules) })
+    (record { tags = c .tags; table = tableOf c })
+    (record { tags = d .tags; table = tableOf d })
     (sym x ∙ ap decode b ∙ y)
   where
     table-of : (p q : Decoded) → result p ≡ result q → p .table ≡ q .table
     table-of p q h = let e : p ≡ q = cc in ap (λ (z : Decoded). z .table) e
 
 -- the same of the bytes of two valid cascades
-pub encode-alike : (c d : Cascade) → Valid c → Valid d → length (tableOf (c .tags) (c .rules)) ≤ most-states → length (tableOf (d .tags) (d .rules)) ≤ most-states
-    → c .tags ≡ d .tags → (encode (c .tags) (tableOf (c .tags) (c .rules)) ≡ encode (d .tags) (tableOf (d .tags) (d .rules))) ↔ Alike c d
-encode-alike c d v w l m k = (λ b. same .0 (encode-one c d v w l m b ∙ sym tags), λ a. ap (encode (c .tags)) (same .1 a) ∙ bytes)
-  where
-    tags : tableOf (c .tags) (d .rules) ≡ tableOf (d .tags) (d .rules)
-    tags = ap (λ (x : ℕ). tableOf x (d .rules)) k
-
-    bytes : encode (c .tags) (tableOf (c .tags) (d .rules)) ≡ encode (d .tags) (tableOf (d .tags) (d .rules))
-    bytes = ap (λ (x : ℕ). encode x (tableOf x (d .rules))) k
-
-    rules : ValidRules longest-pattern (c .tags) (d .rules)
-    rules = subst (λ (x : ℕ). ValidRules longest-pattern x (d .rules)) (sym k) (w .rules-valid)
-
-    same : (tableOf (c .tags) (c .rules) ≡ tableOf (c .tags) (d .rules)) ↔ Alike c d
-    same = theorems.canonical longest-pattern longest-pattern (c .tags) (c .rules) (d .rules) (v .rules-valid) rules
+pub encode-alike : (c d : Cascade) → Valid c → Valid d → length (tableOf c) ≤ most-states → length (tableOf d) ≤ most-states
+    → c .tags ≡ d .tags → (encode (c .tags) (tableOf c) ≡ encode (d .tags) (tableOf d)) ↔ Alike c d
+encode-alike c d v w l m k =
+    let same = theorems.canonical longest-pattern longest-pattern c d (v .rules-valid) (w .rules-valid) k in
+    (λ b. same .0 (encode-one c d v w l m b), λ a. ap₂ encode k (same .1 a))
 
 -- ---- compiled bytes
 
@@ -151,18 +141,18 @@ encode-alike c d v w l m k = (λ b. same .0 (encode-one c d v w l m b ∙ sym ta
 pub record Made (book : List ℕ) (n work : ℕ) (bytes : List ℕ) (c : Cascade) : Type 0 where
   pub premises : Premises book n work c
   pub valid : Valid c
-  pub within : length (tableOf (c .tags) (c .rules)) ≤ most-states
-  pub bytes-are : bytes ≡ encode (c .tags) (tableOf (c .tags) (c .rules))
+  pub within : length (tableOf c) ≤ most-states
+  pub bytes-are : bytes ≡ encode (c .tags) (tableOf c)
 
 module _ (book : List ℕ) (n work room : ℕ) (bytes : List ℕ) (e : compileAnswer book n work room ≡ result bytes) where
   pub some-made : (c : Cascade) × Made book n work bytes c
-  some-made = by (ends book n work room) e
+  some-made = by (test book n work) e
     where
-      by : {o : Outcome (List ℕ)} → Ends book n work room o → o ≡ result bytes → (c : Cascade) × Made book n work bytes c
+      by : {o : Outcome Cascade} → Tested book n work o → andThen o (built n room) ≡ result bytes → (c : Cascade) × Made book n work bytes c
       by (names-nothing j l m) e = let z : _≡_ {A = ℕ} 0 1 = cc in absurd (omega arith)
       by (names-byte j b l m) e = let z : _≡_ {A = ℕ} 0 1 = cc in absurd (omega arith)
       by (goes-on c v p) e =
-          let t = told-bytes c n room bytes (told (c .tags) n (c .rules)) e in
+          let t = told-bytes c n room bytes (told n c) e in
           (c, record { premises = p; valid = v; within = omega (arith, whole-few c n (p .some) (t .0), p .most); bytes-are = t .1 })
 
   pub made : (c : Cascade) → read book ≡ result c → Made book n work bytes c

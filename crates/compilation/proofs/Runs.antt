@@ -35,16 +35,16 @@ module _ (sentence : List ℕ) (room : ℕ) (made : List ℕ) where
     where
       to : bookRun book sentence room ≡ result made → BookMakes book sentence room made
       to e =
-          let t = then-result (read book) (λ b. run (b .tags) sentence room (behavior (b .rules) sentence)) made e in
+          let t = then-result (read book) (λ b. run (b .tags) sentence room (behavior b sentence)) made e in
           let c = t .0 in
-          let a = run-accepts (c .tags) sentence room (behavior (c .rules) sentence) made (t .2) in
+          let a = run-accepts (c .tags) sentence room (behavior c sentence) made (t .2) in
           record { cascade = c; reads = t .1; accepted = a .0; made-is = a .1 }
 
       from : BookMakes book sentence room made → bookRun book sentence room ≡ result made
       from h =
           let c = h .cascade in
           let v = reads-exactly book c .0 (h .reads) .0 in
-          let r = accepted-run (c .tags) sentence room (behavior (c .rules) sentence) (omega (arith, v .enough-tags)) (h .accepted) in
+          let r = accepted-run (c .tags) sentence room (behavior c sentence) (omega (arith, v .enough-tags)) (h .accepted) in
           rw (h .reads) (r ∙ ap result (sym (h .made-is)))
 
   -- a table's run likewise: what the table's transducer puts out
@@ -73,6 +73,6 @@ same-run book n work room bytes e sentence slice =
     let b = c .cascade in
     let t = c .smallest .table in
     let r =
-    run-same (b .tags) sentence slice (puts (shape t) 0 sentence) (behavior (b .rules) sentence) (c .smallest .does sentence)
+    run-same (b .tags) sentence slice (puts (shape t) 0 sentence) (behavior b sentence) (c .smallest .does sentence)
     in
     rw (c .smallest .decodes, c .premises .reads) r

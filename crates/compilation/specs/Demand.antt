@@ -2,12 +2,12 @@
 use Prim.Native.Nat.{ℕ, _≤_, _<_}
 use mathlib.Core.Path.{_≡_}
 use mathlib.Core.List.{List, []}
-use lib.ListN.{length, take, getD}
+use lib.ListN.{length, getD}
 use Rattle.words.specs.Word.{Below, Prefix}
-use Rattle.limits.specs.Limits.{most-states, work-entries}
+use Rattle.limits.specs.Limits.{most-states}
 use Rattle.answers.specs.Outcome.{result}
 use Rattle.sentences.specs.Run.{Accepted}
-use Rattle.cascades.specs.Rule.{Rule, Cascade}
+use Rattle.cascades.specs.Rule.{Cascade, leading}
 use Rattle.cascades.specs.Rewrite.{behavior}
 use Rattle.books.specs.Read.{read}
 use Rattle.transducers.specs.Transducer.{puts, Transducer, turns}
@@ -15,20 +15,21 @@ use Rattle.transducers.specs.Table.{Table, shape}
 use Rattle.transducers.specs.Numbered.{Numbered}
 use Rattle.tables.specs.Bytes.{number}
 use Rattle.tables.specs.Decode.{Decoded, decode}
+use Rattle.compilation.specs.Compile.{entries}
 
--- the machine does what the rules do, on every sentence: "any finite row of tags below K, also the empty one"
-abbrev pub Does : (k : ℕ) → Transducer k → List Rule → Type 0
-Does k M rs = (w : List ℕ) → Below k w → turns M w ≡ behavior rs w
+-- the machine does what the cascade does, on every sentence: "any finite row of tags below K, also the empty one"
+abbrev pub Does : (c : Cascade) → Transducer (c .tags) → Type 0
+Does c M = (w : List ℕ) → Below (c .tags) w → turns M w ≡ behavior c w
 
--- "the first i rules need more than N states in every machine", of any rules
-abbrev pub NeedsMore : ℕ → ℕ → List Rule → Type 0
-NeedsMore k n rs = (M : Transducer k) → Does k M rs → n < M .shape .count
+-- it needs more than n states in every machine
+abbrev pub NeedsMore : ℕ → Cascade → Type 0
+NeedsMore n c = (M : Transducer (c .tags)) → Does c M → n < M .shape .count
 
 -- "A leading part is the first i rules taken as a book, for any i from 1 to all of them": one that needs more than n states
 pub record PartNeedsMore (c : Cascade) (n i : ℕ) : Type 0 where
   pub some : 1 ≤ i
   pub inside : i ≤ length (c .rules)
-  pub more : NeedsMore (c .tags) n (take i (c .rules))
+  pub more : NeedsMore n (leading i c)
 
 -- "i the least such"
 pub record Shortest (c : Cascade) (n i : ℕ) : Type 0 where
@@ -37,7 +38,7 @@ pub record Shortest (c : Cascade) (n i : ℕ) : Type 0 where
 
 -- two books over equally many tags make the same of every sentence
 abbrev pub Alike : Cascade → Cascade → Type 0
-Alike c d = (w : List ℕ) → Below (c .tags) w → behavior (c .rules) w ≡ behavior (d .rules) w
+Alike c d = (w : List ℕ) → Below (c .tags) w → behavior c w ≡ behavior d w
 
 -- what comes before the states: a valid book, whose bytes are read as the cascade; a ceiling in its range; and "A work slice is long enough
 -- if it has the entries under Bounds"
@@ -45,7 +46,7 @@ pub record Premises (book : List ℕ) (n work : ℕ) (c : Cascade) : Type 0 wher
   pub reads : read book ≡ result c
   pub some : 1 ≤ n
   pub most : n ≤ most-states
-  pub entries : work-entries n (c .tags) (length (c .rules)) ≤ work
+  pub long : entries n c ≤ work
 
 -- the bytes are a table for the cascade, and the smallest one, early and numbered
 pub record SmallestTable (c : Cascade) (bytes : List ℕ) : Type 0 where
@@ -53,8 +54,8 @@ pub record SmallestTable (c : Cascade) (bytes : List ℕ) : Type 0 where
   pub decodes : decode bytes ≡ result (record { tags = c .tags; table = table })
   -- "the number it carries is the S in its bytes"
   pub carries : number (getD bytes 2 0) (getD bytes 3 0) ≡ length table
-  pub does : (w : List ℕ) → Below (c .tags) w → puts (shape table) 0 w ≡ behavior (c .rules) w
-  pub smallest : (M : Transducer (c .tags)) → Does (c .tags) M (c .rules) → length table ≤ M .shape .count
+  pub does : (w : List ℕ) → Below (c .tags) w → puts (shape table) 0 w ≡ behavior c w
+  pub smallest : (M : Transducer (c .tags)) → Does c M → length table ≤ M .shape .count
   pub early : (q : ℕ) → q < length table → (z : List ℕ) → ((x : List ℕ) → Below (c .tags) x → Prefix z (puts (shape table) q x)) → z ≡ []
   pub numbered : Numbered (c .tags) (shape table)
 
@@ -75,7 +76,7 @@ pub record BookMakes (book sentence : List ℕ) (room : ℕ) (made : List ℕ) :
   pub cascade : Cascade
   pub reads : read book ≡ result cascade
   pub accepted : Accepted (cascade .tags) sentence room
-  pub made-is : made ≡ behavior (cascade .rules) sentence
+  pub made-is : made ≡ behavior cascade sentence
 
 -- the table's transducer makes this of a sentence that is not refused
 pub record TableMakes (bytes sentence : List ℕ) (room : ℕ) (made : List ℕ) : Type 0 where

@@ -3,24 +3,21 @@ use Prim.Native.Nat.{ℕ, zero, suc, _+_, _-_, _*_, _≤_, _<_}
 use native.Mathlib.Omega.{arith}
 use native.Mathlib.Numerals.{add-one}
 use mathlib.Core.Path.{_≡_, refl, sym, ap, _∙_, subst}
-use mathlib.Core.Bool.{Bool, true, false}
 use mathlib.Core.List.{List, [], _∷_, _++_, reverse-cons, append-assoc, append-nil}
 use borrow.Author.Tests.{le-leb, lt-leb}
-use lib.Dec.{leb}
-use lib.ListN.{length, length-reverse}
+use lib.ListN.{length}
 use Rattle.limits.specs.Limits.{longest-pattern}
 use Rattle.answers.specs.Outcome.{Outcome, refused, rule, andThen}
-use Rattle.cascades.specs.Rule.{Rule, ValidRule, ValidRules}
+use Rattle.cascades.specs.Rule.{Rule, ValidRule, ValidRules, having}
 use Rattle.cascades.specs.Rewrite.{behavior}
-use Rattle.books.specs.Kept.{Kept as Arrays, ruleAt, rulesDown}
-use Rattle.books.proofs.Kept.{down-length}
+use Rattle.books.specs.Arrays.{Arrays, ruleAt, rulesDown, rulesOf, cascadeOf}
+use Rattle.books.proofs.Held.{rules-long}
 use Rattle.transducers.specs.Table.{Table}
 use Rattle.transducers.specs.Tabulate.{table}
-use Rattle.minimal.specs.OneRule.{ruleTable}
-use Rattle.minimal.specs.TableOf.{identity, add, tableOf}
+use Rattle.minimal.specs.TableOf.{identity, addRule, tableOf}
 use Rattle.minimal.proofs.TableOf.{Good, good, tableOf-append}
 use Rattle.tables.specs.Bytes.{encode}
-use Rattle.compilation.specs.Compile.{withRules, compileRules, fitting}
+use Rattle.compilation.specs.Compile.{withRules, compileCascade, fitting, built}
 use Rattle.workspace.specs.declared.Grid.{Grid}
 use Rattle.workspace.specs.Cells.{Sized, Kept, In-rows}
 use Rattle.workspace.specs.Holds.{Holds, Ready, tableAt}
@@ -28,7 +25,7 @@ use Rattle.workspace.proofs.Cells.{kept-none, kept-then, kept-wider, sized-kept
 use Rattle.workspace.proofs.Holds.{table-at, holds-at}
 use Rattle.addition.specs.Addition.{Addable, more, Added}
 use Rattle.compiler.specs.Answer.{compileOutcome}
-use Rattle.compiler.specs.Rules.{upto, outcome, Compilable, Gave}
+use Rattle.compiler.specs.Rules.{Compilable, Gave}
 use Rattle.compiler.specs.declared.CompileAnswer.{CompileAnswer}
 
 -- n rules of the arrays from the i-th on
@@ -41,40 +38,31 @@ pub record Progress (g : Grid) (W X : List ℕ) (ceiling m : ℕ) (a : Arrays) (
   pub kept : Kept g W X (In-rows 0 (g .rows))
   pub inside : i ≤ m
   pub few : n ≤ ceiling
-  pub long : length (tableOf (g .tags) (upto a i)) ≡ n
-  pub holds : Holds g X 0 (tableOf (g .tags) (upto a i))
-  pub goes-on : compileRules (g .tags) ceiling (upto a m) ≡ withRules (g .tags) ceiling i (tableOf (g .tags) (upto a i)) (from a i (m - i))
+  pub long : length (tableOf (cascadeOf (g .tags) a i)) ≡ n
+  pub holds : Holds g X 0 (tableOf (cascadeOf (g .tags) a i))
+  pub goes-on : compileCascade ceiling (cascadeOf (g .tags) a m) ≡ withRules (g .tags) ceiling i (tableOf (cascadeOf (g .tags) a i)) (from a i (m - i))
 
-upto-next : (a : Arrays) (i : ℕ) → upto a (suc i) ≡ upto a i ++ (ruleAt a i ∷ [])
-upto-next a i = reverse-cons (ruleAt a i) (rulesDown a i)
+rules-next : (a : Arrays) (i : ℕ) → rulesOf a (suc i) ≡ rulesOf a i ++ (ruleAt a i ∷ [])
+rules-next a i = reverse-cons (ruleAt a i) (rulesDown a i)
 
-upto-from : (a : Arrays) (n i : ℕ) → upto a i ++ from a i n ≡ upto a (i + n)
-upto-from a zero i = let e : i + 0 ≡ i = omega arith in append-nil (upto a i) ∙ ap (upto a) (sym e)
-upto-from a (suc n) i =
+rules-from : (a : Arrays) (n i : ℕ) → rulesOf a i ++ from a i n ≡ rulesOf a (i + n)
+rules-from a zero i = let e : i + 0 ≡ i = omega arith in append-nil (rulesOf a i) ∙ ap (rulesOf a) (sym e)
+rules-from a (suc n) i =
     let e : suc i + n ≡ i + suc n = omega arith in
-    sym (append-assoc (upto a i) (ruleAt a i ∷ []) (from a (suc i) n)) ∙ ap (λ (l : List Rule). l ++ from a (suc i) n) (sym (upto-next a i))
-    ∙ upto-from a n (suc i) ∙ ap (upto a) e
-
-pub upto-long : (a : Arrays) (i : ℕ) → length (upto a i) ≡ i
-upto-long a i = length-reverse (rulesDown a i) ∙ down-length a i
+    sym (append-assoc (rulesOf a i) (ruleAt a i ∷ []) (from a (suc i) n)) ∙ ap (λ (l : List Rule). l ++ from a (suc i) n) (sym (rules-next a i))
+    ∙ rules-from a n (suc i) ∙ ap (rulesOf a) e
 
 valid-append : (l k : ℕ) (rs : List Rule) (r : Rule) → ValidRules l k rs → ValidRule l k r → ValidRules l k (rs ++ (r ∷ []))
 valid-append l k [] r v h = (h, tt)
 valid-append l k (s ∷ rs) r v h = (v .0, valid-append l k rs r (v .1) h)
 
 -- one more rule in the definition
-abbrev chosen : ℕ → ℕ → ℕ → Table → List Rule → Bool → Outcome Table
-chosen k c i v rs b = elim b [ true ↦ withRules k c (suc i) v rs | false ↦ refused 10 (rule (suc i)) ]
-
-module _ (k c i : ℕ) (t u : Table) (r : Rule) (rs more : List Rule) (e : more ≡ r ∷ rs) (f : add k t (ruleTable k r) ≡ u) where
-  with-one : withRules k c i t more ≡ chosen k c i u rs (leb (length u) c)
-  with-one = ap (withRules k c i t) e ∙ ap (λ (v : Table). chosen k c i v rs (leb (length v) c)) f
-
+module _ (k c i : ℕ) (t u : Table) (r : Rule) (rs more : List Rule) (e : more ≡ r ∷ rs) (f : addRule k t r ≡ u) where
   with-next : length u ≤ c → withRules k c i t more ≡ withRules k c (i + 1) u rs
-  with-next h = with-one ∙ ap (chosen k c i u rs) (le-leb (length u) c h) ∙ ap (λ (j : ℕ). withRules k c j u rs) (sym (add-one i))
+  with-next h = cc (e, f, le-leb (length u) c h, add-one i)
 
   with-over : c < length u → withRules k c i t more ≡ refused 10 (rule (i + 1))
-  with-over h = with-one ∙ ap (chosen k c i u rs) (lt-leb (length u) c h) ∙ ap {B = Outcome Table} (λ (j : ℕ). refused 10 (rule j)) (sym (add-one i))
+  with-over h = cc (e, f, lt-leb (length u) c h, add-one i)
 
 -- a refusal that names the rule
 pub gave-rule : (o : Outcome (List ℕ)) (i : ℕ) → o ≡ refused 10 (rule i) → (out : List ℕ) (r : CompileAnswer) → compileOutcome r ≡ refused 10 (rule i) → Gave o out out r
@@ -88,30 +76,19 @@ all-kept g W X Y some first rest =
 
 -- after the identity's row
 pub begun : (g : Grid) (W X : List ℕ) (ceiling m : ℕ) (a : Arrays) → Compilable g W ceiling m a → length X ≡ length W → Compilable g X ceiling m a
-begun g W X ceiling m a ok long =
-    record {
-      sized = sized-kept g W X (ok .sized) long;
-      rows = ok .rows;
-      depth = ok .depth;
-      some = ok .some;
-      most = ok .most;
-      tags = ok .tags;
-      few = ok .few;
-      shaped = ok .shaped;
-      valid = ok .valid;
-    }
+begun g W X ceiling m a ok long = record { sized = sized-kept g W X (ok .sized) long; rows = ok .rows; depth = ok .depth; readable = ok .readable }
 
 module _ (g : Grid) (W : List ℕ) (ceiling m : ℕ) (a : Arrays) (ok : Compilable g W ceiling m a) where
   abbrev k : ℕ
   k = g .tags
 
-  valid-upto : (i : ℕ) → i ≤ m → ValidRules longest-pattern k (upto a i)
+  valid-upto : (i : ℕ) → i ≤ m → ValidRules longest-pattern k (rulesOf a i)
   valid-upto zero h = tt
   valid-upto (suc i) h =
-      subst (ValidRules longest-pattern k) (sym (upto-next a i)) (valid-append longest-pattern k (upto a i) (ruleAt a i) (valid-upto i (omega arith)) (ok .valid i (omega arith)))
+      subst (ValidRules longest-pattern k) (sym (rules-next a i)) (valid-append longest-pattern k (rulesOf a i) (ruleAt a i) (valid-upto i (omega arith)) (ok .readable .held .valid i (omega arith)))
 
-  good-upto : (i : ℕ) → i ≤ m → Good k (5 * i) (behavior (upto a i)) (tableOf k (upto a i))
-  good-upto i h = let e : (longest-pattern - 1) * length (upto a i) ≡ 5 * i = omega (arith, upto-long a i) in rw (← e) (good longest-pattern k (upto a i) (valid-upto i h))
+  good-upto : (i : ℕ) → i ≤ m → Good k (5 * i) (behavior (cascadeOf k a i)) (tableOf (cascadeOf k a i))
+  good-upto i h = let e : (longest-pattern - 1) * length (rulesOf a i) ≡ 5 * i = omega (arith, rules-long a i) in rw (← e) (good longest-pattern (cascadeOf k a i) (valid-upto i h))
 
   -- no rule is done
   pub progress-start : Holds g W 0 (table k identity) → Progress g W W ceiling m a 0 1
@@ -119,18 +96,18 @@ module _ (g : Grid) (W : List ℕ) (ceiling m : ℕ) (a : Arrays) (ok : Compilab
       record {
         kept = kept-none g (In-rows 0 (g .rows)) W;
         inside = omega arith;
-        few = ok .some;
+        few = ok .readable .some;
         long = refl;
         holds = holds;
         goes-on =
             let e : 0 + m ≡ m = omega arith in
             let z : m - 0 ≡ m = omega arith in
-            ap (withRules k ceiling 0 (table k identity)) (sym (upto-from a m 0 ∙ ap (upto a) e) ∙ ap (from a 0) (sym z));
+            ap (withRules k ceiling 0 (table k identity)) (sym (rules-from a m 0 ∙ ap (rulesOf a) e) ∙ ap (from a 0) (sym z));
       }
 
   module _ (X : List ℕ) (i n : ℕ) (p : Progress g W X ceiling m a i n) where
-    at-is : tableAt g X 0 n ≡ tableOf k (upto a i)
-    at-is = table-at g X 0 n (tableOf k (upto a i)) (p .holds) (p .long)
+    at-is : tableAt g X 0 n ≡ tableOf (cascadeOf k a i)
+    at-is = table-at g X 0 n (tableOf (cascadeOf k a i)) (p .holds) (p .long)
 
     sized-now : Sized g X
     sized-now = sized-kept g W X (ok .sized) (p .kept .long)
@@ -142,11 +119,11 @@ module _ (g : Grid) (W : List ℕ) (ceiling m : ℕ) (a : Arrays) (ok : Compilab
         record {
           sized = sized-now;
           rows = omega (arith, ok .rows);
-          some = ok .some;
+          some = ok .readable .some;
           few = p .few;
-          holds = holds-at g X 0 n (tableOf k (upto a i)) (p .holds) (p .long);
+          holds = holds-at g X 0 n (tableOf (cascadeOf k a i)) (p .holds) (p .long);
           most = 5 * i;
-          makes = behavior (upto a i);
+          makes = behavior (cascadeOf k a i);
           doing = rw at-is (t .doing);
           canonical = rw at-is (t .canonical);
           deep = omega (arith, ok .depth);
@@ -154,21 +131,21 @@ module _ (g : Grid) (W : List ℕ) (ceiling m : ℕ) (a : Arrays) (ok : Compilab
         }
 
     module _ (h : i < m) (Y : List ℕ) (count : ℕ) (added : Added g X Y n ceiling (ruleAt a i) count) where
-      more-is : more g X n (ruleAt a i) ≡ tableOf k (upto a (i + 1))
+      more-is : more g X n (ruleAt a i) ≡ tableOf (cascadeOf k a (i + 1))
       more-is =
-          ap (λ (t : Table). add k t (ruleTable k (ruleAt a i))) at-is ∙ sym (tableOf-append k (upto a i) (ruleAt a i))
-          ∙ ap (tableOf k) (sym (upto-next a i)) ∙ ap (λ (j : ℕ). tableOf k (upto a j)) (sym (add-one i))
+          ap (λ (t : Table). addRule k t (ruleAt a i)) at-is ∙ sym (tableOf-append (cascadeOf k a i) (rulesOf a i) (ruleAt a i))
+          ∙ ap (λ (rs : List Rule). tableOf (having (cascadeOf k a i) rs)) (sym (rules-next a i)) ∙ ap (λ (j : ℕ). tableOf (cascadeOf k a j)) (sym (add-one i))
 
       kept-now : Kept g W Y (In-rows 0 (g .rows))
       kept-now = kept-then g (In-rows 0 (g .rows)) W X Y (p .kept) (added .kept)
 
-      next-is : add k (tableOf k (upto a i)) (ruleTable k (ruleAt a i)) ≡ tableOf k (upto a (i + 1))
-      next-is = ap (λ (t : Table). add k t (ruleTable k (ruleAt a i))) (sym at-is) ∙ more-is
+      next-is : addRule k (tableOf (cascadeOf k a i)) (ruleAt a i) ≡ tableOf (cascadeOf k a (i + 1))
+      next-is = ap (λ (t : Table). addRule k t (ruleAt a i)) (sym at-is) ∙ more-is
 
       rest : from a i (m - i) ≡ ruleAt a i ∷ from a (i + 1) (m - (i + 1))
       rest = let e : m - i ≡ suc (m - (i + 1)) = omega arith in cc (e, add-one i)
 
-      count-is : length (tableOf k (upto a (i + 1))) ≡ count
+      count-is : length (tableOf (cascadeOf k a (i + 1))) ≡ count
       count-is = ap length (sym more-is) ∙ sym (added .count-is)
 
       pub progress-next : count ≤ ceiling → Progress g W Y ceiling m a (i + 1) count
@@ -181,15 +158,15 @@ module _ (g : Grid) (W : List ℕ) (ceiling m : ℕ) (a : Arrays) (ok : Compilab
             holds = rw (← more-is) (added .holds few);
             goes-on =
                 p .goes-on
-                ∙ with-next k ceiling i (tableOf k (upto a i)) (tableOf k (upto a (i + 1))) (ruleAt a i) (from a (i + 1) (m - (i + 1))) (from a i (m - i)) rest next-is
+                ∙ with-next k ceiling i (tableOf (cascadeOf k a i)) (tableOf (cascadeOf k a (i + 1))) (ruleAt a i) (from a (i + 1) (m - (i + 1))) (from a i (m - i)) rest next-is
                 (omega (arith, count-is));
           }
 
-      pub too-many : ceiling < count → (room : ℕ) → outcome k ceiling room a m ≡ refused 10 (rule (i + 1))
+      pub too-many : ceiling < count → (room : ℕ) → built ceiling room (cascadeOf k a m) ≡ refused 10 (rule (i + 1))
       too-many many room =
           ap (λ (o : Outcome Table). andThen o (λ t. fitting room (encode k t)))
           (p .goes-on
-          ∙ with-over k ceiling i (tableOf k (upto a i)) (tableOf k (upto a (i + 1))) (ruleAt a i) (from a (i + 1) (m - (i + 1))) (from a i (m - i)) rest next-is
+          ∙ with-over k ceiling i (tableOf (cascadeOf k a i)) (tableOf (cascadeOf k a (i + 1))) (ruleAt a i) (from a (i + 1) (m - (i + 1))) (from a i (m - i)) rest next-is
           (omega (arith, count-is)))
 
       pub kept-too-many : Kept g W Y (In-rows 0 (g .rows))
@@ -201,7 +178,7 @@ module _ (g : Grid) (W : List ℕ) (ceiling m : ℕ) (a : Arrays) (ok : Compilab
         record {
           sized = sized-now;
           inside = omega (arith, p .few, ok .rows);
-          holds = holds-at g X 0 n (tableOf k (upto a i)) (p .holds) (p .long);
+          holds = holds-at g X 0 n (tableOf (cascadeOf k a i)) (p .holds) (p .long);
           sound = rw at-is (t .doing .sound);
           most = 5 * i;
           held = rw at-is (t .doing .held);
@@ -209,7 +186,7 @@ module _ (g : Grid) (W : List ℕ) (ceiling m : ℕ) (a : Arrays) (ok : Compilab
         }
 
     -- all rules are done
-    pub outcome-is : m ≤ i → (room : ℕ) → outcome k ceiling room a m ≡ fitting room (encode k (tableAt g X 0 n))
+    pub outcome-is : m ≤ i → (room : ℕ) → built ceiling room (cascadeOf k a m) ≡ fitting room (encode k (tableAt g X 0 n))
     outcome-is h room =
         let last : i ≡ m = omega (arith, p .inside) in
         let e : m - i ≡ 0 = omega arith in

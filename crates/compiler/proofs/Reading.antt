@@ -11,31 +11,26 @@ use lib.Dec.{leb}
 use lib.ListN.{length, drop, getD, replicate, length-drop}
 use lib.Seq.{ext-getD, getD-drop}
 use Rattle.limits.specs.Limits.{most-states, work-entries}
-use Rattle.answers.specs.Outcome.{Outcome, result, refused, nothing, byte, andThen}
+use Rattle.answers.specs.Outcome.{Place, Outcome, result, refused, nothing, andThen, provided}
 use Rattle.answers.specs.Answer.{refusal}
 use Rattle.answers.specs.declared.Refusal.{Refusal}
 use Rattle.answers.specs.declared.Refusal.the-variants.{AtByte, AtRule, Bare}
-use Rattle.cascades.specs.Rule.{Rule, Cascade}
-use Rattle.books.specs.Kept.{Kept as Arrays}
+use Rattle.sentences.specs.Run.{written}
+use Rattle.cascades.specs.Rule.{Cascade}
+use Rattle.books.specs.Arrays.{Arrays, cascadeOf}
 use Rattle.books.specs.Read.{read}
 use Rattle.books.specs.Resume.{Whole}
 use Rattle.books.specs.declared.BookAnswer.{BookAnswer}
 use Rattle.books.specs.declared.BookAnswer.the-variants.{Book}
-use Rattle.books.proofs.Refusal.{BookRefusal, book-refusal}
-use Rattle.books.proofs.Encode.{kept-valid, kept-few, reads-exactly}
-use Rattle.transducers.specs.Table.{Table}
-use Rattle.minimal.specs.TableOf.{tableOf}
-use Rattle.tables.specs.Bytes.{encode}
-use Rattle.sentences.specs.Run.{written}
-use Rattle.compilation.specs.Compile.{compileRules, fitting, compileCascade, compileAnswer}
-use Rattle.compilation.proofs.Answer.{Told, fits, exceeds, told}
+use Rattle.books.proofs.Encode.{reads-exactly}
+use Rattle.books.proofs.Held.{rules-long, was-refused, was-read, rules-held}
+use Rattle.compilation.specs.Compile.{entries, roomed, tested, built, compileAnswer}
 use Rattle.workspace.specs.declared.Grid.{Grid}
 use Rattle.workspace.specs.Cells.{ix, at, Kept, In-rows}
 use Rattle.workspace.proofs.Cells.{ix-below}
-use Rattle.compiler.specs.Answer.{compileOutcome, longOf, clears, required, worked}
-use Rattle.compiler.specs.Rules.{upto, outcome, cascadeOf, Compilable, Readable, Ended, Gave}
+use Rattle.compiler.specs.Answer.{compileOutcome, longOf, worked}
+use Rattle.compiler.specs.Rules.{Gave, Readable, Compilable, Ended}
 use Rattle.compiler.specs.declared.CompileAnswer.{CompileAnswer}
-use Rattle.compiler.proofs.Progress.{upto-long}
 
 -- ---- the numbers
 
@@ -56,16 +51,11 @@ compilable k ceiling m a W ok room =
             room = room;
             rows-small = omega (arith, ok .most);
             tags-small = omega (arith, ok .tags);
-            depth-small = omega (arith, ok .few);
+            depth-small = omega (arith, ok .held .few);
           };
       rows = refl;
       depth = refl;
-      some = ok .some;
-      most = ok .most;
-      tags = ok .tags;
-      few = ok .few;
-      shaped = ok .shaped;
-      valid = ok .valid;
+      readable = ok;
     }
 
 -- ---- the entries after the rows
@@ -106,138 +96,97 @@ beyond g W X deep kept =
         (kept .same (t .quotient) (t .rest) (s .rest) (t .less) (s .less)
         (λ p. let b = ix-below g (t .quotient) (t .rest) (s .rest) (record { row = p .1; cell = t .less; entry = s .less }) in omega (arith, place, b)))
 
--- ---- outcomes that clear the work slice
+-- ---- the stages
 
-pub clears-late : (k n : ℕ) (rs : List Rule) (room : ℕ) → clears (andThen (compileRules k n rs) (λ t. fitting room (encode k t))) ≡ true
-clears-late k n rs room = by (compileRules k n rs) (told k n rs)
-  where
-    fitted : (bytes : List ℕ) (b : Bool) → leb (length bytes) room ≡ b → clears (fitting room bytes) ≡ true
-    fitted bytes true e = cc (e)
-    fitted bytes false e = cc (e)
+-- a refusal that comes before a state is built: nothing is written
+pub refused-ended : (t : Outcome Cascade) (n j : ℕ) (p : Place) → t ≡ refused j p → (r : CompileAnswer) → compileOutcome r ≡ refused j p
+    → (W out : List ℕ) → Ended t n W W out out r
+refused-ended t n j p e r f W out = record { gave = record { answered = cc (e, f); wrote = cc (e) }; worked-is = cc (e) }
 
-    by : (o : Outcome Table) → Told k n rs o → clears (andThen o (λ t. fitting room (encode k t))) ≡ true
-    by o (fits f) = fitted (encode k (tableOf k rs)) (leb (length (encode k (tableOf k rs))) room) refl
-    by o (exceeds i x) = refl
-
--- ---- the rules that have been read, with t for their number of tags in code
-
-cascade-is : (n work room k m : ℕ) (a : Arrays) → (b : Bool) → leb (work-entries n k (length (upto a m))) work ≡ b
-    → compileCascade n work room (cascadeOf k a m) ≡ elim b as (λ x. Outcome (List ℕ)) [ false ↦ refused 9 nothing | true ↦ outcome k n room a m ]
-cascade-is n work room k m a b e =
-    ap (λ (x : Bool). elim x as (λ y. Outcome (List ℕ)) [ false ↦ refused 9 nothing | true ↦ outcome k n room a m ]) e
-
-worked-true : (o : Outcome (List ℕ)) (n : ℕ) (W : List ℕ) → clears o ≡ true → worked o n W ≡ replicate n 0 ++ drop n W
-worked-true o n W e = ap (λ (b : Bool). elim b as (λ x. List ℕ) [ true ↦ replicate n 0 ++ drop n W | false ↦ W ]) e
-
--- a refusal that names nothing and comes before 10
-pub bare : (n : ℕ) → leb 10 n ≡ false → (o : Outcome (List ℕ)) → o ≡ refused n nothing → (r : CompileAnswer) → compileOutcome r ≡ refused n nothing
-    → (entries : ℕ) (W out : List ℕ) → Ended o entries W W out out r
-bare n low o e r f entries W out = record { gave = record { answered = cc (e, f); wrote = cc (e) }; worked-is = cc (e, low) }
-
+-- the rules that have been read, with t for their number of tags in code
 module _ (k ceiling m : ℕ) (a : Arrays) (ok : Readable k ceiling m a) (t : ℕ) (e : t ≡ k) where
   pub readable : Readable t ceiling m a
   readable = subst (λ (n : ℕ). Readable n ceiling m a) (sym e) ok
 
-  abbrev entries : ℕ
-  entries = 16 * ceiling * (t + 1) * (5 * m + 8)
+  abbrev all : ℕ
+  all = 16 * ceiling * (t + 1) * (5 * m + 8)
 
-  entries-are : entries ≡ work-entries ceiling k m
-  entries-are = ap (λ (n : ℕ). 16 * ceiling * (n + 1) * (5 * m + 8)) e
+  all-are : all ≡ entries ceiling (cascadeOf k a m)
+  all-are = ap (λ (n : ℕ). 16 * ceiling * (n + 1) * (5 * m + 8)) e ∙ ap (work-entries ceiling k) (sym (rules-long a m))
 
-  needed : work-entries ceiling k (length (upto a m)) ≡ work-entries ceiling k m
-  needed = ap (work-entries ceiling k) (upto-long a m)
-
-  pub short : (W out : List ℕ) → length W < entries → (r : CompileAnswer) → compileOutcome r ≡ refused 9 nothing
-      → Ended (compileCascade ceiling (length W) (length out) (cascadeOf k a m)) (work-entries ceiling k m) W W out out r
+  pub short : (W out : List ℕ) → length W < all → (r : CompileAnswer) → compileOutcome r ≡ refused 9 nothing
+      → Ended (roomed ceiling (length W) (cascadeOf k a m)) ceiling W W out out r
   short W out h r f =
-      let less : length W < work-entries ceiling k (length (upto a m)) = subst (λ (n : ℕ). length W < n) (entries-are ∙ sym needed) h in
-      bare 9 refl (compileCascade ceiling (length W) (length out) (cascadeOf k a m))
-      (cascade-is ceiling (length W) (length out) k m a false (lt-leb (work-entries ceiling k (length (upto a m))) (length W) less)) r f (work-entries ceiling k m) W out
+      let less : length W < entries ceiling (cascadeOf k a m) = subst (λ (n : ℕ). length W < n) all-are h in
+      let is : roomed ceiling (length W) (cascadeOf k a m) ≡ refused 9 nothing = cc (lt-leb (entries ceiling (cascadeOf k a m)) (length W) less) in
+      refused-ended (roomed ceiling (length W) (cascadeOf k a m)) ceiling 9 nothing is r f W out
 
-  pub ended : (W X Y out after : List ℕ) (r : CompileAnswer) → entries ≤ length W → Gave (outcome t ceiling (length out) a m) out after r
-      → Kept (gridOf t ceiling m) W X (In-rows 0 (16 * ceiling)) → Y ≡ replicate entries 0 ++ drop entries X
-      → Ended (compileCascade ceiling (length W) (length out) (cascadeOf k a m)) (work-entries ceiling k m) W Y out after r
+  pub ended : (W X Y out after : List ℕ) (r : CompileAnswer) → all ≤ length W → Gave (built ceiling (length out) (cascadeOf t a m)) out after r
+      → Kept (gridOf t ceiling m) W X (In-rows 0 (16 * ceiling)) → Y ≡ replicate all 0 ++ drop all X
+      → Ended (roomed ceiling (length W) (cascadeOf k a m)) ceiling W Y out after r
   ended W X Y out after r h gave kept wiped =
-      let enough : work-entries ceiling k (length (upto a m)) ≤ length W = subst (λ (n : ℕ). n ≤ length W) (entries-are ∙ sym needed) h in
-      let whole = cascade-is ceiling (length W) (length out) k m a true (le-leb (work-entries ceiling k (length (upto a m))) (length W) enough) in
-      let same : outcome t ceiling (length out) a m ≡ compileCascade ceiling (length W) (length out) (cascadeOf k a m) =
-      ap (λ (n : ℕ). outcome n ceiling (length out) a m) e ∙ sym whole
+      let c = cascadeOf k a m in
+      let enough : entries ceiling c ≤ length W = subst (λ (n : ℕ). n ≤ length W) all-are h in
+      let is : roomed ceiling (length W) c ≡ result c = cc (le-leb (entries ceiling c) (length W) enough) in
+      let done : Gave (built ceiling (length out) c) out after r = subst (λ (n : ℕ). Gave (built ceiling (length out) (cascadeOf n a m)) out after r) e gave in
+      let zero-then : Y ≡ replicate (entries ceiling c) 0 ++ drop (entries ceiling c) W =
+      wiped ∙ ap (λ (l : List ℕ). replicate all 0 ++ l) (beyond (gridOf t ceiling m) W X (omega arith) kept) ∙ ap (λ (n : ℕ). replicate n 0 ++ drop n W) all-are
       in
-      let clear : clears (compileCascade ceiling (length W) (length out) (cascadeOf k a m)) ≡ true = ap clears whole ∙ clears-late k ceiling (upto a m) (length out) in
       record {
-        gave = subst (λ (o : Outcome (List ℕ)). Gave o out after r) same gave;
-        worked-is =
-            wiped ∙ ap (λ (l : List ℕ). replicate entries 0 ++ l) (beyond (gridOf t ceiling m) W X (omega arith) kept)
-            ∙ ap (λ (n : ℕ). replicate n 0 ++ drop n W) entries-are
-            ∙ sym (worked-true (compileCascade ceiling (length W) (length out) (cascadeOf k a m)) (work-entries ceiling k m) W clear);
+        gave = subst (λ (o : Outcome Cascade). Gave (andThen o (built ceiling (length out))) out after r) (sym is) done;
+        worked-is = zero-then ∙ ap (λ (o : Outcome Cascade). worked ceiling o W) (sym is);
       }
 
 -- ---- the book
 
-module _ (book : List ℕ) (n work room : ℕ) where
-  -- 8
-  answer-is : (b : Bool) → (leb 1 n && leb n most-states) ≡ b
-      → compileAnswer book n work room ≡ elim b as (λ x. Outcome (List ℕ)) [ false ↦ refused 8 nothing | true ↦ andThen (read book) (compileCascade n work room) ]
-  answer-is b e = ap (λ (x : Bool). elim x as (λ y. Outcome (List ℕ)) [ false ↦ refused 8 nothing | true ↦ andThen (read book) (compileCascade n work room) ]) e
+module _ (book : List ℕ) (n work : ℕ) where
+  tested-is : (b : Bool) → (leb 1 n && leb n most-states) ≡ b → tested book n work ≡ provided 8 b (andThen (read book) (roomed n work))
+  tested-is b e = ap (λ (x : Bool). provided 8 x (andThen (read book) (roomed n work))) e
 
-  pub too-low : n < 1 → compileAnswer book n work room ≡ refused 8 nothing
-  too-low h = answer-is false (ap (λ (b : Bool). b && leb n most-states) (lt-leb 1 n h))
+  -- 8
+  pub too-low : n < 1 → tested book n work ≡ refused 8 nothing
+  too-low h = tested-is false (ap (λ (b : Bool). b && leb n most-states) (lt-leb 1 n h))
 
   in-range : 1 ≤ n → (b : Bool) → leb n most-states ≡ b → (leb 1 n && leb n most-states) ≡ b
   in-range h b e = ap (λ (x : Bool). x && leb n most-states) (le-leb 1 n h) ∙ e
 
-  pub too-high : 1 ≤ n → most-states < n → compileAnswer book n work room ≡ refused 8 nothing
-  too-high h l = answer-is false (in-range h false (lt-leb n most-states l))
+  pub too-high : 1 ≤ n → most-states < n → tested book n work ≡ refused 8 nothing
+  too-high h l = tested-is false (in-range h false (lt-leb n most-states l))
 
   module _ (low : 1 ≤ n) (high : n ≤ most-states) where
-    within : compileAnswer book n work room ≡ andThen (read book) (compileCascade n work room)
-    within = answer-is true (in-range low true (le-leb n most-states high))
+    within : tested book n work ≡ andThen (read book) (roomed n work)
+    within = tested-is true (in-range low true (le-leb n most-states high))
 
     module _ (a : Arrays) (r : BookAnswer) (w : Whole book a r) where
-      -- a book's refusal names a byte
       pub book-refused : (x : Refusal) → r ≡ BookAnswer.Refused x → (q : CompileAnswer) → compileOutcome q ≡ refusal x
-          → (entries : ℕ) (W out : List ℕ) → Ended (compileAnswer book n work room) entries W W out out q
-      book-refused x f q g entries W out = by x (cc (w .outcome)) g
+          → (W out : List ℕ) → Ended (tested book n work) n W W out out q
+      book-refused x f q g W out = by x (was-refused book a r w x f) g
         where
-          by : (x : Refusal) → refusal x ≡ read book → compileOutcome q ≡ refusal x → Ended (compileAnswer book n work room) entries W W out out q
-          by (AtByte i p) e g =
-              let o : compileAnswer book n work room ≡ refused i (byte p) = within ∙ ap (λ (c : Outcome Cascade). andThen c (compileCascade n work room)) (sym e) in
-              named (compileAnswer book n work room) i p o g
-            where
-              named : (o : Outcome (List ℕ)) (i p : ℕ) → o ≡ refused i (byte p) → compileOutcome q ≡ refused i (byte p) → Ended o entries W W out out q
-              named o i p e g = record { gave = record { answered = cc (e, g); wrote = cc (e) }; worked-is = cc (e) }
-          by (AtRule i p) e g = absurd (subst BookRefusal (sym e) (book-refusal book))
-          by (Bare i) e g = absurd (subst BookRefusal (sym e) (book-refusal book))
+          stays : (j : ℕ) (p : Place) → read book ≡ refused j p → tested book n work ≡ refused j p
+          stays j p e = within ∙ ap (λ (c : Outcome Cascade). andThen c (roomed n work)) e
+
+          by : (x : Refusal) → read book ≡ refusal x → compileOutcome q ≡ refusal x → Ended (tested book n work) n W W out out q
+          by (AtByte j p) e g = refused-ended (tested book n work) n j _ (stays j _ e) q g W out
+          by (AtRule j p) e g = refused-ended (tested book n work) n j _ (stays j _ e) q g W out
+          by (Bare j) e g = refused-ended (tested book n work) n j _ (stays j _ e) q g W out
 
       module _ (k m : ℕ) (f : r ≡ Book k m) where
-        was-read : result (cascadeOf k a m) ≡ read book
-        was-read = cc (w .outcome)
-
         pub read-readable : Readable k n m a
         read-readable =
-            let v = reads-exactly book (cascadeOf k a m) .0 (sym was-read) .0 in
-            record {
-              some = low;
-              most = high;
-              tags = v .few-tags;
-              few = kept-few book k m a was-read;
-              shaped = w .shaped;
-              valid = kept-valid book k m a was-read;
-            }
+            let v = reads-exactly book (cascadeOf k a m) .0 (was-read book a r w k m f) .0 in
+            record { some = low; most = high; tags = v .few-tags; held = rules-held book a r w k m f }
 
-        pub book-ended : (W X out after : List ℕ) (q : CompileAnswer) → length W ≡ work → length out ≡ room
-            → Ended (compileCascade n (length W) (length out) (cascadeOf k a m)) (work-entries n k m) W X out after q
-            → Ended (compileAnswer book n work room) (required n (read book)) W X out after q
-        book-ended W X out after q lw lo h =
-            let o : compileCascade n (length W) (length out) (cascadeOf k a m) ≡ compileAnswer book n work room =
-            ap (λ (i : ℕ). compileCascade n i (length out) (cascadeOf k a m)) lw ∙ ap (λ (i : ℕ). compileCascade n work i (cascadeOf k a m)) lo
-            ∙ ap (λ (c : Outcome Cascade). andThen c (compileCascade n work room)) was-read ∙ sym within
+        pub book-ended : (W X out after : List ℕ) (q : CompileAnswer) → length W ≡ work
+            → Ended (roomed n (length W) (cascadeOf k a m)) n W X out after q → Ended (tested book n work) n W X out after q
+        book-ended W X out after q lw h =
+            let is : roomed n (length W) (cascadeOf k a m) ≡ tested book n work =
+            ap (λ (i : ℕ). roomed n i (cascadeOf k a m)) lw
+            ∙ ap (λ (c : Outcome Cascade). andThen c (roomed n work)) (sym (was-read book a r w k m f))
+            ∙ sym within
             in
-            let i : work-entries n k m ≡ required n (read book) = ap (work-entries n k) (sym (upto-long a m)) ∙ ap (required n) was-read in
-            subst (λ (x : Outcome (List ℕ)). Ended x (required n (read book)) W X out after q) o
-            (subst (λ (j : ℕ). Ended (compileCascade n (length W) (length out) (cascadeOf k a m)) j W X out after q) i h)
+            subst (λ (o : Outcome Cascade). Ended o n W X out after q) is h
 
 -- the three equations of the call
-pub all-three : {o : Outcome (List ℕ)} {n : ℕ} {W X before after : List ℕ} {r : CompileAnswer} → Ended o n W X before after r
-    → (compileOutcome r ≡ longOf o) × ((after ≡ written o before) × (X ≡ worked o n W))
-all-three h = (h .gave .answered, (h .gave .wrote, h .worked-is))
+pub all-three : (book : List ℕ) (n work : ℕ) {W X before after : List ℕ} {r : CompileAnswer} → Ended (tested book n work) n W X before after r
+    → (compileOutcome r ≡ longOf (compileAnswer book n work (length before))) × ((after ≡ written (compileAnswer book n work (length before)) before) × (X ≡ worked n (tested book n work) W))
+all-three book n work h = (h .gave .answered, (h .gave .wrote, h .worked-is))

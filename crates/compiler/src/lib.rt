@@ -1,27 +1,28 @@
 // The compile call: the phases for each rule of a book, and the bytes of the table.
 use answers::Refusal;
 use books::BookAnswer;
+use books::HEAD;
+use cascades::Rule;
 use limits::PATTERN;
 use limits::RULES;
 use limits::STATES;
 use words::wide;
 use workspace::Grid;
 ghost use mathlib.Core.Path.{_≡_};
-ghost use Prim.Native.Nat.{_+_, _*_, _≤_, _<_};
+ghost use Prim.Native.Nat.{_≤_, _<_};
 ghost use mathlib.Core.List.{_++_};
 ghost use lib.ListN.{length, drop, replicate};
 ghost use Rattle.tables.specs.Bytes.{encode};
 ghost use Rattle.compilation.specs.Compile.{fitting};
 ghost use Rattle.workspace.specs.Holds.{Ready, tableAt};
-ghost use Rattle.limits.specs.Limits.{most-rules, work-entries};
 ghost use Rattle.sentences.specs.Run.{written};
-ghost use Rattle.books.specs.Read.{read};
-ghost use Rattle.books.specs.Kept.{arrays, Shaped, ruleAt};
-ghost use Rattle.compilation.specs.Compile.{compileCascade, compileAnswer};
+ghost use Rattle.cascades.specs.Value.{ruleOf, Formed};
+ghost use Rattle.books.specs.Arrays.{arrays, cascadeOf};
+ghost use Rattle.compilation.specs.Compile.{roomed, tested, built, compileAnswer};
 ghost use Rattle.workspace.specs.Cells.{Kept, In-rows};
 ghost use Rattle.addition.specs.Addition.{Addable, Added};
-ghost use Rattle.compiler.specs.Answer.{compileOutcome, longOf, required, worked};
-ghost use Rattle.compiler.specs.Rules.{outcome, cascadeOf, Compilable, Readable, Ended, Gave};
+ghost use Rattle.compiler.specs.Answer.{compileOutcome, longOf, worked};
+ghost use Rattle.compiler.specs.Rules.{Gave, Readable, Compilable, Ended};
 
 // The number of bytes of the table, or the refusal.
 pub enum CompileAnswer {
@@ -55,28 +56,15 @@ fn finish(work: &[u16], g: Grid, n: usize, out: &mut [u8]) -> CompileAnswer
     CompileAnswer::Table(end)
 }
 
-// Adds the rule i of the arrays to the table in the first n rows.
-fn add_at(
-    work: &mut [u16],
-    g: Grid,
-    n: usize,
-    ceiling: usize,
-    rows: &[[u8; PATTERN]; RULES],
-    lengths: &[usize; RULES],
-    places: &[u8; RULES],
-    tags: &[u8; RULES],
-    i: usize,
-) -> usize
-    requires { ⌜ Shaped (arrays rows lengths places tags) ⌝ }
-    requires { ⌜ i < most-rules ⌝ }
-    requires { ⌜ Addable g (now work) n ceiling (ruleAt (arrays rows lengths places tags) i) ⌝ }
-    ensures { λ count. ⌜ Added g (now (work .entry)) (now (work .exit)) n ceiling (ruleAt (arrays (rows .entry) (lengths .entry) (places .entry) (tags .entry)) i) count ⌝ }
+// Adds the rule to the table in the first n rows.
+fn add_to(work: &mut [u16], g: Grid, n: usize, ceiling: usize, rule: Rule) -> usize
+    requires { ⌜ Formed rule ⌝ }
+    requires { ⌜ Addable g (now work) n ceiling (ruleOf rule) ⌝ }
+    ensures { λ count. ⌜ Added g (now (work .entry)) (now (work .exit)) n ceiling (ruleOf rule) count ⌝ }
 {
-    let row = rows[i];
-    let len = lengths[i];
-    let place = wide(places[i]);
-    let tag = tags[i];
-    addition::add_rule(work, g, n, ceiling, &row[..len], place, tag)
+    let row = rule.row;
+    let length = rule.length;
+    addition::add_rule(work, g, n, ceiling, &row[..length], rule.place, rule.tag)
 }
 
 // The table of the first m rules of the arrays: its bytes, 10 or 11.
@@ -87,19 +75,19 @@ fn compile_rules(
     m: usize,
     rows: &[[u8; PATTERN]; RULES],
     lengths: &[usize; RULES],
-    places: &[u8; RULES],
-    tags: &[u8; RULES],
+    heads: &[[u8; HEAD]; RULES],
     out: &mut [u8],
 ) -> CompileAnswer
-    requires { ⌜ Compilable g (now work) ceiling m (arrays rows lengths places tags) ⌝ }
-    ensures gave { λ r. ⌜ Gave (outcome (g .tags) ceiling (length (now (out .entry))) (arrays (rows .entry) (lengths .entry) (places .entry) (tags .entry)) m) (now (out .entry)) (now (out .exit)) r ⌝ }
+    requires { ⌜ Compilable g (now work) ceiling m (arrays rows lengths heads) ⌝ }
+    ensures gave { λ r. ⌜ Gave (built ceiling (length (now (out .entry))) (cascadeOf (g .tags) (arrays (rows .entry) (lengths .entry) (heads .entry)) m)) (now (out .entry)) (now (out .exit)) r ⌝ }
     ensures kept { λ r. ⌜ Kept g (now (work .entry)) (now (work .exit)) (In-rows 0 (g .rows)) ⌝ }
 {
     identity::write_identity(work, g);
     let mut n = 1;
     let mut i = 0;
     while i < m {
-        let count = add_at(work, g, n, ceiling, rows, lengths, places, tags, i);
+        let rule = books::rule_at(rows, lengths, heads, i);
+        let count = add_to(work, g, n, ceiling, rule);
         if ceiling < count {
             return CompileAnswer::Refused(Refusal::AtRule {
                 number: 10,
@@ -120,12 +108,11 @@ fn compile_read(
     m: usize,
     rows: &[[u8; PATTERN]; RULES],
     lengths: &[usize; RULES],
-    places: &[u8; RULES],
-    tags: &[u8; RULES],
+    heads: &[[u8; HEAD]; RULES],
     out: &mut [u8],
 ) -> CompileAnswer
-    requires { ⌜ Readable k ceiling m (arrays rows lengths places tags) ⌝ }
-    ensures { λ r. ⌜ Ended (compileCascade ceiling (length (now (work .entry))) (length (now (out .entry))) (cascadeOf k (arrays (rows .entry) (lengths .entry) (places .entry) (tags .entry)) m)) (work-entries ceiling k m) (now (work .entry)) (now (work .exit)) (now (out .entry)) (now (out .exit)) r ⌝ }
+    requires { ⌜ Readable k ceiling m (arrays rows lengths heads) ⌝ }
+    ensures { λ r. ⌜ Ended (roomed ceiling (length (now (work .entry))) (cascadeOf k (arrays (rows .entry) (lengths .entry) (heads .entry)) m)) ceiling (now (work .entry)) (now (work .exit)) (now (out .entry)) (now (out .exit)) r ⌝ }
 {
     let g = Grid {
         rows: 16 * ceiling,
@@ -136,7 +123,7 @@ fn compile_read(
     if work.len() < entries {
         return CompileAnswer::Refused(Refusal::Bare { number: 9 });
     }
-    let answer = compile_rules(work, g, ceiling, m, rows, lengths, places, tags, out);
+    let answer = compile_rules(work, g, ceiling, m, rows, lengths, heads, out);
     wipe(work, entries);
     answer
 }
@@ -145,7 +132,7 @@ fn compile_read(
 pub fn compile(book: &[u8], ceiling: usize, work: &mut [u16], out: &mut [u8]) -> CompileAnswer
     ensures answer { λ r. ⌜ compileOutcome r ≡ longOf (compileAnswer (now (book .entry)) ceiling (length (now (work .entry))) (length (now (out .entry)))) ⌝ }
     ensures out { λ r. ⌜ now (out .exit) ≡ written (compileAnswer (now (book .entry)) ceiling (length (now (work .entry))) (length (now (out .entry)))) (now (out .entry)) ⌝ }
-    ensures work { λ r. ⌜ now (work .exit) ≡ worked (compileAnswer (now (book .entry)) ceiling (length (now (work .entry))) (length (now (out .entry)))) (required ceiling (read (now (book .entry)))) (now (work .entry)) ⌝ }
+    ensures work { λ r. ⌜ now (work .exit) ≡ worked ceiling (tested (now (book .entry)) ceiling (length (now (work .entry)))) (now (work .entry)) ⌝ }
 {
     if ceiling < 1 {
         return CompileAnswer::Refused(Refusal::Bare { number: 8 });
@@ -155,9 +142,8 @@ pub fn compile(book: &[u8], ceiling: usize, work: &mut [u16], out: &mut [u8]) ->
     }
     let mut rows = [[0u8; PATTERN]; RULES];
     let mut lengths = [0usize; RULES];
-    let mut places = [0u8; RULES];
-    let mut tags = [0u8; RULES];
-    let got = books::read_into(book, &mut rows, &mut lengths, &mut places, &mut tags);
+    let mut heads = [[0u8; HEAD]; RULES];
+    let got = books::read_into(book, &mut rows, &mut lengths, &mut heads);
     match got {
         BookAnswer::Refused(refusal) => CompileAnswer::Refused(refusal),
         BookAnswer::Book { tags: k, rules } => compile_read(
@@ -167,8 +153,7 @@ pub fn compile(book: &[u8], ceiling: usize, work: &mut [u16], out: &mut [u8]) ->
             rules,
             &rows,
             &lengths,
-            &places,
-            &tags,
+            &heads,
             out,
         ),
     }

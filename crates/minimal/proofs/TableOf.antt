@@ -7,8 +7,8 @@ use mathlib.Core.List.{List, [], _∷_, _++_}
 use lib.ListN.{length, take}
 use Rattle.words.specs.Word.{Below, Prefix}
 use Rattle.words.specs.Front.{first}
-use Rattle.cascades.specs.Rule.{Rule, ValidRule, ValidRules}
-use Rattle.cascades.specs.Rewrite.{apply, behavior}
+use Rattle.cascades.specs.Rule.{Rule, ValidRule, ValidRules, Cascade, having, ValidCascade}
+use Rattle.cascades.specs.Rewrite.{apply, applyAll, behavior}
 use Rattle.transducers.specs.Transducer.{Shape, puts, Transducer, turns}
 use Rattle.transducers.specs.Table.{Table, shape}
 use Rattle.transducers.specs.Run.{outputs}
@@ -25,7 +25,7 @@ use Rattle.transducers.proofs.Normalize.{doing-normalize, early-normalize}
 use Rattle.transducers.proofs.Merge.{doing-merge, early-merge, apart-merge}
 use Rattle.transducers.proofs.Number.{doing-number, canonical-number}
 use Rattle.minimal.specs.OneRule.{oneRule, ruleTable}
-use Rattle.minimal.specs.TableOf.{identity, add, addAll, tableOf}
+use Rattle.minimal.specs.TableOf.{identity, add, addRule, addAll, tableOf}
 use Rattle.minimal.proofs.OneRule.{does-rule, sound-rule, held-rule, minimal-rule}
 
 -- a table after some rules: the canonical one that does f
@@ -89,17 +89,17 @@ pub doing-rule : (l k : ℕ) (r : Rule) → ValidRule l k r → Doing k (l - 1) 
 doing-rule l k r ok = doing-table k (oneRule r) (sound-rule l k r ok) (l - 1) (apply r) (held-rule l k r ok) (does-rule l k r ok)
 
 good-addAll : (l k d : ℕ) (f : List ℕ → List ℕ) (rs : List Rule) (t : Table) → Good k d f t → ValidRules l k rs
-    → Good k (d + (l - 1) * length rs) (λ w. behavior rs (f w)) (addAll k t rs)
+    → Good k (d + (l - 1) * length rs) (λ w. applyAll rs (f w)) (addAll k t rs)
 good-addAll l k d f [] t good ok = let e : d ≡ d + (l - 1) * 0 = omega arith in rw (← e) good
 good-addAll l k d f (r ∷ rs) t good ok =
     let e : d + (l - 1) + (l - 1) * length rs ≡ d + (l - 1) * suc (length rs) = omega arith in
     let more = good-add k d (l - 1) f (apply r) t (ruleTable k r) good (doing-rule l k r (ok .0)) in
-    rw (← e) (good-addAll l k (d + (l - 1)) (λ w. apply r (f w)) rs (add k t (ruleTable k r)) more (ok .1))
+    rw (← e) (good-addAll l k (d + (l - 1)) (λ w. apply r (f w)) rs (addRule k t r) more (ok .1))
 
-pub good : (l k : ℕ) (rs : List Rule) → ValidRules l k rs → Good k ((l - 1) * length rs) (behavior rs) (tableOf k rs)
-good l k rs ok =
-    let e : 0 + (l - 1) * length rs ≡ (l - 1) * length rs = omega arith in
-    rw (← e) (good-addAll l k 0 (λ w. w) rs (table k identity) (good-identity k) ok)
+pub good : (l : ℕ) (c : Cascade) → ValidCascade l c → Good (c .tags) ((l - 1) * length (c .rules)) (behavior c) (tableOf c)
+good l c ok =
+    let e : 0 + (l - 1) * length (c .rules) ≡ (l - 1) * length (c .rules) = omega arith in
+    rw (← e) (good-addAll l (c .tags) 0 (λ w. w) (c .rules) (table (c .tags) identity) (good-identity (c .tags)) ok)
 
 -- a sound transducer as one that starts in state 0 and puts out nothing at first
 abbrev pub machine : (k : ℕ) (S : Shape) → Sound k S → Transducer k
@@ -137,12 +137,14 @@ good-canonical k d e f g t u a b = (
 )
 
 -- 002, proposition 5, for the table
-pub one-rule-count : (l k : ℕ) (r : Rule) → ValidRule l k r → length (tableOf k (r ∷ [])) ≡ length (r .pattern) + 1
-one-rule-count l k r ok =
-    let t-good = good l k (r ∷ []) (ok, tt) in
-    let t = tableOf k (r ∷ []) in
+pub one-rule-count : (l : ℕ) (c : Cascade) (r : Rule) → ValidRule l (c .tags) r → length (tableOf (having c (r ∷ []))) ≡ length (r .pattern) + 1
+one-rule-count l c r ok =
+    let k = c .tags in
+    let one = having c (r ∷ []) in
+    let t = tableOf one in
+    let t-good = good l one (ok, tt) in
     let rule-sound = sound-rule l k r ok in
-    let up = good-smallest k ((l - 1) * 1) (behavior (r ∷ [])) t t-good (machine k (oneRule r) rule-sound) (does-rule l k r ok) in
+    let up = good-smallest k ((l - 1) * 1) (behavior one) t t-good (machine k (oneRule r) rule-sound) (does-rule l k r ok) in
     let alike : Same k (puts (shape t) 0) (puts (oneRule r) 0) = λ x hx. t-good .doing .does x hx ∙ sym (does-rule l k r ok x hx) in
     let low = fewest k (oneRule r) (minimal-rule l k r ok) (machine k (shape t) (t-good .doing .sound)) alike (rule-sound .some) in
     omega arith
@@ -150,10 +152,10 @@ one-rule-count l k r ok =
 -- rules are added one at a time: the tables on the way are those of the leading parts
 addAll-append : (k : ℕ) (t : Table) (rs ss : List Rule) → addAll k t (rs ++ ss) ≡ addAll k (addAll k t rs) ss
 addAll-append k t [] ss = refl
-addAll-append k t (r ∷ rs) ss = addAll-append k (add k t (ruleTable k r)) rs ss
+addAll-append k t (r ∷ rs) ss = addAll-append k (addRule k t r) rs ss
 
-pub tableOf-append : (k : ℕ) (rs : List Rule) (r : Rule) → tableOf k (rs ++ (r ∷ [])) ≡ add k (tableOf k rs) (ruleTable k r)
-tableOf-append k rs r = addAll-append k (table k identity) rs (r ∷ [])
+pub tableOf-append : (c : Cascade) (rs : List Rule) (r : Rule) → tableOf (having c (rs ++ (r ∷ []))) ≡ addRule (c .tags) (tableOf (having c rs)) r
+tableOf-append c rs r = addAll-append (c .tags) (table (c .tags) identity) rs (r ∷ [])
 
 pub valid-take : (l k i : ℕ) (rs : List Rule) → ValidRules l k rs → ValidRules l k (take i rs)
 valid-take l k zero rs ok = tt

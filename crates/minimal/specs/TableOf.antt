@@ -2,7 +2,7 @@
 -- Time grows with the rules times the work of the phases on the table so far, composed with one rule.
 use Prim.Native.Nat.{ℕ}
 use mathlib.Core.List.{List, [], _∷_}
-use Rattle.cascades.specs.Rule.{Rule}
+use Rattle.cascades.specs.Rule.{Rule, Cascade}
 use Rattle.transducers.specs.Transducer.{Shape}
 use Rattle.transducers.specs.Table.{Table}
 use Rattle.transducers.specs.Tabulate.{table}
@@ -24,9 +24,13 @@ add k t u =
     let merged = merge k normalized in
     number k merged
 
+-- the table with one more rule
+abbrev pub addRule : ℕ → Table → Rule → Table
+addRule k t r = add k t (ruleTable k r)
+
 abbrev pub addAll : ℕ → Table → List Rule → Table
 addAll k t [] = t
-addAll k t (r ∷ rs) = addAll k (add k t (ruleTable k r)) rs
+addAll k t (r ∷ rs) = addAll k (addRule k t r) rs
 
-abbrev pub tableOf : ℕ → List Rule → Table
-tableOf k rs = addAll k (table k identity) rs
+abbrev pub tableOf : Cascade → Table
+tableOf c = addAll (c .tags) (table (c .tags) identity) (c .rules)

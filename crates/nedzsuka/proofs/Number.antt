@@ -7,7 +7,7 @@ use mathlib.Core.List.{List, [], _∷_}
 use lib.Dec.{eqb, leb}
 use lib.ListN.{length}
 use Rattle.words.specs.Word.{differences}
-use Rattle.answers.specs.Outcome.{Outcome, result, refused, nothing, byte, rule, andThen}
+use Rattle.answers.specs.Outcome.{Outcome, result, refused, nothing, byte, rule, andThen, provided}
 use Rattle.sentences.specs.Run.{run, changed}
 use Rattle.sentences.proofs.Laws.{RunEnds, too-long, high-tag, no-room, made-of, run-ends}
 use Rattle.cascades.specs.Rule.{Cascade}
@@ -23,8 +23,8 @@ use Rattle.tables.specs.Bytes.{encode}
 use Rattle.tables.specs.Decode.{Decoded, decode}
 use Rattle.tables.specs.Run.{tableRun}
 use Rattle.tables.proofs.Heads.{Read, gave, refuses, read-decode, valid-length}
-use Rattle.compilation.specs.Compile.{unless, fitting, compileAnswer}
-use Rattle.compilation.proofs.Answer.{Told, fits, exceeds, told, table-valid, Ends, names-nothing, names-byte, goes-on, ends}
+use Rattle.compilation.specs.Compile.{fitting, built, compileAnswer}
+use Rattle.compilation.proofs.Answer.{Told, fits, exceeds, told, table-valid, Tested, names-nothing, names-byte, goes-on, test}
 use Rattle.compilation.proofs.Parts.{whole-few}
 use Rattle.compiler.specs.Answer.{longOf}
 use Rattle.nedzsuka.specs.Packed.{packed, taken, unpacked, handed, Legible}
@@ -56,8 +56,8 @@ legible-run k s room made = by (run-ends k s room made)
 pub legible-book : (book s : List ℕ) (room : ℕ) → Legible (changed s (bookRun book s room))
 legible-book book s room = by (read book) (book-refusal book)
   where
-    by : (o : Outcome Cascade) → BookRefusal o → Legible (changed s (andThen o (λ b. run (b .tags) s room (behavior (b .rules) s))))
-    by (result b) n = legible-run (b .tags) s room (behavior (b .rules) s)
+    by : (o : Outcome Cascade) → BookRefusal o → Legible (changed s (andThen o (λ b. run (b .tags) s room (behavior b s))))
+    by (result b) n = legible-run (b .tags) s room (behavior b s)
     by (refused j nothing) n = absurd n
     by (refused j (byte i)) n = bare j (n .0) (omega (arith, n .1))
     by (refused j (rule i)) n = absurd n
@@ -77,24 +77,24 @@ legible-table table s room = by (read-decode table)
 
 module _ (book : List ℕ) (n work room : ℕ) where
   pub legible-compile : Legible (longOf (compileAnswer book n work room))
-  legible-compile = by (ends book n work room)
+  legible-compile = by (test book n work)
     where
-      fitted : (bytes : List ℕ) → length bytes < 2 ^ 56 → (t : Bool) → Legible (longOf (unless 11 t (result bytes)))
+      fitted : (bytes : List ℕ) → length bytes < 2 ^ 56 → (t : Bool) → Legible (longOf (provided 11 t (result bytes)))
       fitted bytes h true = h
       fitted bytes h false = (omega arith, omega arith, λ e. omega arith)
 
-      late : (c : Cascade) → Valid c → (some : 1 ≤ n) → n ≤ 256 → {o : Outcome Table} → Told (c .tags) n (c .rules) o
+      late : (c : Cascade) → Valid c → 1 ≤ n → n ≤ 256 → {o : Outcome Table} → Told n c o
           → Legible (longOf (andThen o (λ t. fitting room (encode (c .tags) t))))
       late c v some most (fits f) =
-          let t = tableOf (c .tags) (c .rules) in
+          let t = tableOf c in
           let few = table-valid c v (omega (arith, whole-few c n some f)) in
           fitted (encode (c .tags) t) (omega (arith, valid-length (c .tags) t few)) (leb (length (encode (c .tags) t)) room)
       late c v some most (exceeds i x) = (refl, x .some, omega (arith, x .inside, v .few-rules))
 
-      by : {o : Outcome (List ℕ)} → Ends book n work room o → Legible (longOf o)
+      by : {o : Outcome Cascade} → Tested book n work o → Legible (longOf (andThen o (built n room)))
       by (names-nothing j a b) = bare j a (omega arith)
       by (names-byte j i a b) = bare j a (omega arith)
-      by (goes-on c v p) = late c v (p .some) (p .most) (told (c .tags) n (c .rules))
+      by (goes-on c v p) = late c v (p .some) (p .most) (told n c)
 
 -- ---- the number
 

@@ -7,12 +7,11 @@ ghost use mathlib.Core.Path.{_≡_};
 ghost use Prim.Native.Nat.{_+_, _*_, _^_, _<_};
 ghost use lib.ListN.{length};
 ghost use Rattle.answers.specs.Answer.{refusal, runOutcome};
-ghost use Rattle.books.specs.Read.{read};
 ghost use Rattle.sentences.specs.Run.{changed, written};
 ghost use Rattle.tagger.specs.Run.{bookRun};
 ghost use Rattle.tables.specs.Run.{tableRun};
-ghost use Rattle.compilation.specs.Compile.{compileAnswer};
-ghost use Rattle.compiler.specs.Answer.{compileOutcome, longOf, required, worked};
+ghost use Rattle.compilation.specs.Compile.{tested, compileAnswer};
+ghost use Rattle.compiler.specs.Answer.{compileOutcome, longOf, worked};
 ghost use Rattle.nedzsuka.specs.Packed.{packed, Legible};
 
 fn pack(upper: usize, number: u8) -> u64
@@ -63,7 +62,7 @@ pub extern "C" fn nedzsuka_compile(
 ) -> u64
     ensures answer { λ r. ⌜ r ≡ packed (longOf (compileAnswer (now (book .entry)) ceiling (length (now (work .entry))) (length (now (out .entry))))) ⌝ }
     ensures out { λ r. ⌜ now (out .exit) ≡ written (compileAnswer (now (book .entry)) ceiling (length (now (work .entry))) (length (now (out .entry)))) (now (out .entry)) ⌝ }
-    ensures work { λ r. ⌜ now (work .exit) ≡ worked (compileAnswer (now (book .entry)) ceiling (length (now (work .entry))) (length (now (out .entry)))) (required ceiling (read (now (book .entry)))) (now (work .entry)) ⌝ }
+    ensures work { λ r. ⌜ now (work .exit) ≡ worked ceiling (tested (now (book .entry)) ceiling (length (now (work .entry)))) (now (work .entry)) ⌝ }
 {
     let answer = compiler::compile(book, ceiling as usize, work, out);
     pack_compile(answer)

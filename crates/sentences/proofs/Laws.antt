@@ -3,7 +3,7 @@ use Prim.Native.Nat.{ℕ, suc, _+_, _<_, _≤_, max}
 use native.Mathlib.Numerals.{add-one}
 use native.Mathlib.Nat.{zero-add}
 use native.Mathlib.Omega.{arith}
-use mathlib.Core.Path.{_≡_, refl, sym, ap, subst}
+use mathlib.Core.Path.{_≡_, refl, sym, ap, _∙_, subst}
 use mathlib.Core.Bool.{Bool, true, false}
 use mathlib.Core.List.{List, [], _∷_, _++_}
 use borrow.Author.Tests.{eq-eqb, ne-eqb, le-leb, lt-leb, lt-ltb, le-ltb, leb-true, ltb-true}
@@ -12,12 +12,14 @@ use lib.ListN.{length, drop, getD, set}
 use lib.Seq.{drop-cons, paste, paste-suc, take-length}
 use Rattle.words.specs.Word.{Below, differences}
 use Rattle.limits.specs.Limits.{longest-sentence}
-use Rattle.answers.specs.Outcome.{Outcome, result, refused, nothing}
+use Rattle.answers.specs.Outcome.{Outcome, result, refused, nothing, andThen, provided}
 use Rattle.answers.specs.Answer.{refusal}
 use Rattle.answers.specs.declared.Refusal.{Refusal}
 use Rattle.answers.specs.declared.Refusal.the-variants.{AtByte, AtRule, Bare}
 use Rattle.answers.specs.declared.RunAnswer.the-variants.{Changed, Refused}
-use Rattle.sentences.specs.Run.{highest, run, Accepted, Ran}
+use Rattle.sentences.specs.Run.{highest, admitted, run, Accepted, Ran}
+use Rattle.sentences.specs.Admission.{admissionOutcome, admission}
+use Rattle.sentences.specs.declared.Admission.{Admission}
 use Rattle.sentences.specs.Parts.{Wrote}
 
 pub highest-next : (s : List ℕ) (i : ℕ) → i < length s → highest (drop i s) ≡ max (getD s i 0) (highest (drop (i + 1) s))
@@ -47,19 +49,34 @@ copy-next d s o i hd hs e =
 pub copy-whole : (d s o : List ℕ) (i : ℕ) → i ≡ length s → o ≡ paste d 0 s i → o ≡ s ++ drop (length s) d
 copy-whole d s o i p e = rw (e, p, take-length s, zero-add)
 
--- the cases of `run`, in the order in which they are tested
+-- the cases of `admitted` and of `run`, in the order in which they are tested
+module _ (k : ℕ) (s : List ℕ) where
+  pub admitted-long : longest-sentence < length s → refused 13 nothing ≡ admitted k s
+  admitted-long h = cc (lt-leb (length s) longest-sentence h)
+
+  pub admitted-tag : length s ≤ longest-sentence → k ≤ highest s → refused 4 nothing ≡ admitted k s
+  admitted-tag h t = cc (le-leb (length s) longest-sentence h, le-ltb (highest s) k t)
+
+  pub admitted-all : length s ≤ longest-sentence → highest s < k → result tt ≡ admitted k s
+  admitted-all h t = cc (le-leb (length s) longest-sentence h, lt-ltb (highest s) k t)
+
+refusal-then : {A B : Type 0} (x : Refusal) (f : A → Outcome B) → andThen (refusal x) f ≡ refusal x
+refusal-then (AtByte n b) f = refl
+refusal-then (AtRule n i) f = refl
+refusal-then (Bare n) f = refl
+
 module _ (k : ℕ) (s : List ℕ) (room : ℕ) (made : List ℕ) where
-  pub run-long : longest-sentence < length s → refused 13 nothing ≡ run k s room made
-  run-long h = cc (lt-leb (length s) longest-sentence h)
+  pub run-refused : (r : Admission) (x : Refusal) → r ≡ Admission.Refused x → admissionOutcome r ≡ admitted k s → admission r made ≡ run k s room made
+  run-refused r x e a =
+      ap (λ (y : Admission). admission y made) e
+      ∙ sym (refusal-then x (λ (u : Unit {0}). provided 11 (leb (length s) room) (result made)))
+      ∙ ap (λ (o : Outcome (Unit {0})). andThen o (λ u. provided 11 (leb (length s) room) (result made))) (sym (ap admissionOutcome e) ∙ a)
 
-  pub run-tag : length s ≤ longest-sentence → k ≤ highest s → refused 4 nothing ≡ run k s room made
-  run-tag h t = cc (le-leb (length s) longest-sentence h, le-ltb (highest s) k t)
+  pub run-room : admitted k s ≡ result tt → room < length s → refused 11 nothing ≡ run k s room made
+  run-room e r = cc (e, lt-leb (length s) room r)
 
-  pub run-room : length s ≤ longest-sentence → highest s < k → room < length s → refused 11 nothing ≡ run k s room made
-  run-room h t r = cc (le-leb (length s) longest-sentence h, lt-ltb (highest s) k t, lt-leb (length s) room r)
-
-  pub run-made : length s ≤ longest-sentence → highest s < k → length s ≤ room → result made ≡ run k s room made
-  run-made h t r = cc (le-leb (length s) longest-sentence h, lt-ltb (highest s) k t, le-leb (length s) room r)
+  pub run-made : admitted k s ≡ result tt → length s ≤ room → result made ≡ run k s room made
+  run-made e r = cc (e, le-leb (length s) room r)
 
 -- a sentence's highest tag is below k exactly if all its tags are
 pub highest-below : (k : ℕ) (w : List ℕ) → highest w < k → Below k w
@@ -82,8 +99,7 @@ module _ (k : ℕ) (s : List ℕ) (room : ℕ) (made : List ℕ) where
   run-ends = by (leb (length s) longest-sentence) (ltb (highest s) k) (leb (length s) room) refl refl refl
     where
       by : (a b c : Bool) → leb (length s) longest-sentence ≡ a → ltb (highest s) k ≡ b → leb (length s) room ≡ c
-          → RunEnds k s room made
-          (elim a as (λ x. Outcome (List ℕ)) [ false ↦ refused 13 nothing | true ↦ elim b as (λ x. Outcome (List ℕ)) [ false ↦ refused 4 nothing | true ↦ elim c as (λ x. Outcome (List ℕ)) [ false ↦ refused 11 nothing | true ↦ result made ] ] ])
+          → RunEnds k s room made (andThen {A = Unit {0}} (provided 13 a (provided 4 b (result (tt {0})))) (λ x. provided 11 c (result made)))
       by true true true f g h =
           made-of
           (record {
@@ -106,15 +122,16 @@ module _ (k : ℕ) (s : List ℕ) (room : ℕ) (made : List ℕ) where
       by no-room e = let z : _≡_ {A = ℕ} 0 1 = cc in absurd (omega arith)
 
   pub accepted-run : 0 < k → Accepted k s room → run k s room made ≡ result made
-  accepted-run h a = sym (run-made k s room made (a .short) (below-highest k s h (a .below)) (a .fits))
+  accepted-run h a = sym (run-made k s room made (sym (admitted-all k s (a .short) (below-highest k s h (a .below)))) (a .fits))
 
   -- what is made matters only for a sentence of tags below k
   pub run-same : (made' : List ℕ) → (Below k s → made ≡ made') → run k s room made ≡ run k s room made'
-  run-same made' e = by (ltb (highest s) k) refl
+  run-same made' e = by (leb (length s) longest-sentence) (ltb (highest s) k) refl refl
     where
-      by : (b : Bool) → ltb (highest s) k ≡ b → run k s room made ≡ run k s room made'
-      by true g = ap (run k s room) (e (highest-below k s (ltb-true (highest s) k g)))
-      by false g = cc
+      by : (a b : Bool) → leb (length s) longest-sentence ≡ a → ltb (highest s) k ≡ b → run k s room made ≡ run k s room made'
+      by true true f g = ap (run k s room) (e (highest-below k s (ltb-true (highest s) k g)))
+      by true false f g = cc
+      by false b f g = cc
 
 -- ---- how runs end
 

@@ -1,13 +1,12 @@
 -- A run over a sentence, of a book or of a table.
 use Prim.Native.Nat.{ℕ, _≤_, max}
 use mathlib.Core.Path.{_≡_}
-use mathlib.Core.Bool.{true, false}
 use mathlib.Core.List.{List, [], _∷_, _++_}
 use lib.Dec.{leb, ltb}
 use lib.ListN.{length, drop}
 use Rattle.limits.specs.Limits.{longest-sentence}
 use Rattle.words.specs.Word.{Below, differences}
-use Rattle.answers.specs.Outcome.{Outcome, result, refused, nothing}
+use Rattle.answers.specs.Outcome.{Outcome, result, refused, andThen, provided}
 use Rattle.answers.specs.Answer.{runOutcome}
 use Rattle.answers.specs.declared.RunAnswer.{RunAnswer}
 
@@ -16,18 +15,13 @@ abbrev pub highest : List ℕ → ℕ
 highest [] = 0
 highest (a ∷ w) = max a (highest w)
 
--- "Then the sentence: 13 before 4", and 11 if the output slice is shorter than the result, which is as long as the sentence.
--- 13: sentence longer than 65,535; 4: a tag not below k
+-- "Then the sentence: 13 before 4". 13: sentence longer than 65,535; 4: a tag not below k
+abbrev pub admitted : ℕ → List ℕ → Outcome (Unit {0})
+admitted k sentence = provided 13 (leb (length sentence) longest-sentence) (provided 4 (ltb (highest sentence) k) (result tt))
+
+-- then 11 if the output slice is shorter than the result, which is as long as the sentence
 abbrev pub run : ℕ → List ℕ → ℕ → List ℕ → Outcome (List ℕ)
-run k sentence room made =
-    elim (leb (length sentence) longest-sentence) [
-      | false ↦ refused 13 nothing
-      | true ↦
-          elim (ltb (highest sentence) k) [
-            | false ↦ refused 4 nothing
-            | true ↦ elim (leb (length sentence) room) [ false ↦ refused 11 nothing | true ↦ result made ]
-          ]
-    ]
+run k sentence room made = andThen (admitted k sentence) (λ x. provided 11 (leb (length sentence) room) (result made))
 
 -- the answer of a run: the number of changed tags
 abbrev pub changed : List ℕ → Outcome (List ℕ) → Outcome ℕ

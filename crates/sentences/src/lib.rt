@@ -6,9 +6,9 @@ ghost use Prim.Native.Nat.{ℕ, _+_, _≤_};
 ghost use mathlib.Core.List.{List, _++_};
 ghost use lib.ListN.{length, drop};
 ghost use Rattle.words.specs.Word.{differences};
-ghost use Rattle.sentences.specs.Run.{highest, run};
+ghost use Rattle.sentences.specs.Run.{highest, admitted, run};
 ghost use Rattle.sentences.specs.Parts.{Counted};
-ghost use Rattle.sentences.specs.Admission.{admission};
+ghost use Rattle.sentences.specs.Admission.{admissionOutcome, admission};
 
 pub enum Admission {
     Admitted,
@@ -31,9 +31,9 @@ fn highest_of(s: &[u8]) -> u8
     top
 }
 
-// 13, 4 and 11 in that order: whether a run over k tags may write its result to a slice of `room` bytes.
-pub fn admit(sentence: &[u8], k: u8, room: usize) -> Admission
-    ensures { λ r. ⌜ ((made : List ℕ) → admission r made ≡ run k (now (sentence .entry)) room made) ⌝ }
+// 13 and 4 in that order: whether the sentence can be run over k tags.
+pub fn admit_tags(sentence: &[u8], k: u8) -> Admission
+    ensures { λ r. ⌜ admissionOutcome r ≡ admitted k (now (sentence .entry)) ⌝ }
 {
     if limits::SENTENCE < sentence.len() {
         return Admission::Refused(Refusal::Bare { number: 13 });
@@ -41,10 +41,21 @@ pub fn admit(sentence: &[u8], k: u8, room: usize) -> Admission
     if k <= highest_of(sentence) {
         return Admission::Refused(Refusal::Bare { number: 4 });
     }
+    Admission::Admitted
+}
+
+// Then 11: whether its result may be written to a slice of `room` bytes.
+pub fn admit(sentence: &[u8], k: u8, room: usize) -> Admission
+    ensures { λ r. ⌜ ((made : List ℕ) → admission r made ≡ run k (now (sentence .entry)) room made) ⌝ }
+{
+    let tags = admit_tags(sentence, k);
+    let Admission::Admitted = tags else {
+        return tags;
+    };
     if room < sentence.len() {
         return Admission::Refused(Refusal::Bare { number: 11 });
     }
-    Admission::Admitted
+    tags
 }
 
 // The sentence to the front of `out`.

@@ -4,11 +4,11 @@ use native.Mathlib.Numerals.{add-one}
 use native.Mathlib.Omega.{arith}
 use mathlib.Core.Path.{_≡_, sym, ap, _∙_, subst}
 use mathlib.Core.Bool.{Bool, true, false}
-use mathlib.Core.List.{List, [], _∷_, _++_, reverse, reverse-cons}
+use mathlib.Core.List.{List, [], _∷_, _++_, reverse-cons}
 use lib.ListN.{length, take, drop, getD, set}
-use lib.Seq.{take-append-seam, drop-append-seam, take-at}
-use Rattle.words.specs.Word.{prefix, differences}
+use lib.Seq.{take-append-seam, drop-append-seam, take-at, length-take-le}
 use Rattle.limits.specs.Limits.{most-rules}
+use Rattle.words.specs.Word.{prefix, differences}
 use Rattle.answers.specs.Outcome.{Outcome, result}
 use Rattle.answers.specs.Answer.{refusal}
 use Rattle.answers.specs.declared.Refusal.{Refusal}
@@ -18,16 +18,19 @@ use Rattle.sentences.specs.Parts.{Wrote}
 use Rattle.sentences.specs.Admission.{admission}
 use Rattle.sentences.specs.declared.Admission.{Admission}
 use Rattle.cascades.specs.Rule.{Rule}
-use Rattle.cascades.specs.Rewrite.{rewrite, apply, behavior}
-use Rattle.cascades.proofs.Rewrite.{From, first-other, search-next, search-found, behavior-append}
+use Rattle.cascades.specs.Value.{ruleOf, Formed}
+use Rattle.cascades.specs.declared.Rule.{Rule as Value}
+use Rattle.cascades.specs.Rewrite.{rewrite, apply, applyAll, behavior}
+use Rattle.cascades.proofs.Rewrite.{From, first-other, search-next, search-found, applyAll-append}
 use Rattle.books.specs.Read.{read}
-use Rattle.books.specs.Kept.{Kept, ruleAt, rulesDown}
+use Rattle.books.specs.Arrays.{Arrays, Shaped, placeAt, ruleAt, rulesDown, rulesOf, cascadeOf}
 use Rattle.books.specs.Resume.{Whole}
 use Rattle.books.specs.declared.BookAnswer.{BookAnswer}
 use Rattle.books.specs.declared.BookAnswer.the-variants.{Book}
-use Rattle.books.proofs.Kept.{pattern-long}
-use Rattle.books.proofs.Encode.{cascade, kept-valid, kept-few}
+use Rattle.books.proofs.Arrays.{pattern-long}
+use Rattle.books.proofs.Held.{was-refused, was-read, rules-held}
 use Rattle.tagger.specs.Run.{bookRun}
+use Rattle.tagger.specs.Rules.{Applicable}
 
 module _ (u t s : List ℕ) (p tag i : ℕ) (same : s ≡ t) (f : From u (set u p tag) t i) (hp : p < length u) (hi : i < length t) where
   pub found : (b : Bool) → b ≡ prefix u (drop i s) → b ≡ true → set s (i + p) tag ≡ rewrite u (set u p tag) t
@@ -44,16 +47,17 @@ module _ (u t s : List ℕ) (p tag i : ℕ) (same : s ≡ t) (f : From u (set u 
       (first-other u t i (omega arith) hi (subst (λ (x : List ℕ). getD x i 0 ≡ getD u 0 0 → ⊥) same d))
 
 -- one more rule
-pub rule-next : (a : Kept) (i : ℕ) (w v : List ℕ) → v ≡ behavior (reverse (rulesDown a i)) w
-    → apply (ruleAt a i) v ≡ behavior (reverse (rulesDown a (i + 1))) w
-rule-next a i w v e =
+pub rule-next : (a : Arrays) (i : ℕ) (r : Rule) (w v : List ℕ) → r ≡ ruleAt a i → v ≡ applyAll (rulesOf a i) w → apply r v ≡ applyAll (rulesOf a (i + 1)) w
+rule-next a i r w v f e =
     let n : i + 1 ≡ suc i = add-one i in
-    cc (
-      e,
-      n,
-      reverse-cons (ruleAt a i) (rulesDown a i),
-      behavior-append (reverse (rulesDown a i)) (ruleAt a i ∷ []) w,
-    )
+    cc (e, f, n, reverse-cons (ruleAt a i) (rulesDown a i), applyAll-append (rulesOf a i) (ruleAt a i ∷ []) w)
+
+-- a rule of the arrays has its place in its pattern
+pub rule-inside : (a : Arrays) (i : ℕ) (v : Value) → ruleOf v ≡ ruleAt a i → Formed v → Shaped a → i < most-rules → placeAt a i < getD (a .lengths) i 0 → v .place < v .length
+rule-inside a i v e f s h l =
+    let p : v .place ≡ placeAt a i = ap (λ (r : Rule). r .place) e in
+    let n : length (take (v .length) (v .row)) ≡ length (ruleAt a i .pattern) = ap (λ (r : Rule). length (r .pattern)) e in
+    omega (arith, p, n, length-take-le (v .length) (v .row) (omega (arith, f .row-long, f .length-short)), pattern-long a s i h)
 
 -- ---- the output slice: o after the copy of the sentence w, and x what the rules leave of its front
 
@@ -68,11 +72,11 @@ module _ (w out o x : List ℕ) (copied : o ≡ w ++ drop (length w) out) where
     pub made-long : length w ≡ length (take (length w) (x ++ drop (length w) o))
     made-long = let e : length x ≡ length w = long ∙ sym front-long in rw (take-at x (drop (length w) o) (length w) e) (sym e)
 
-    pub writes : (rs : List Rule) (n : ℕ) → x ≡ behavior rs (take (length w) o) → n ≡ differences w (take (length w) (x ++ drop (length w) o))
-        → Wrote (behavior rs w) w out (x ++ drop (length w) o) n
+    pub writes : (rs : List Rule) (n : ℕ) → x ≡ applyAll rs (take (length w) o) → n ≡ differences w (take (length w) (x ++ drop (length w) o))
+        → Wrote (applyAll rs w) w out (x ++ drop (length w) o) n
     writes rs n e c =
         let l : length x ≡ length w = long ∙ sym front-long in
-        let m : x ≡ behavior rs w = e ∙ ap (behavior rs) front-is in
+        let m : x ≡ applyAll rs w = e ∙ ap (applyAll rs) front-is in
         let d : drop (length w) o ≡ drop (length w) out = rw copied (drop-append-seam w (drop (length w) out)) in
         record {
           counted = c ∙ ap (differences w) (take-at x (drop (length w) o) (length w) l ∙ m);
@@ -88,25 +92,24 @@ module _ (r : Admission) (o : Outcome (List ℕ)) (made : List ℕ) (e : admissi
   pub run-admitted : r ≡ Admission.Admitted → result made ≡ o
   run-admitted f = cc
 
-module _ (bytes : List ℕ) (a : Kept) (r : BookAnswer) (w : Whole bytes a r) where
+module _ (bytes : List ℕ) (a : Arrays) (r : BookAnswer) (w : Whole bytes a r) where
   pub book-refused : (s : List ℕ) (room : ℕ) (x : Refusal) → r ≡ BookAnswer.Refused x → refusal x ≡ bookRun bytes s room
-  book-refused s room x f = stays x (cc (w .outcome))
+  book-refused s room x f = stays x (was-refused bytes a r w x f)
     where
-      stays : (x : Refusal) → refusal x ≡ read bytes → refusal x ≡ bookRun bytes s room
+      stays : (x : Refusal) → read bytes ≡ refusal x → refusal x ≡ bookRun bytes s room
       stays (AtByte n i) e = cc
       stays (AtRule n i) e = cc
       stays (Bare n) e = cc
 
   module _ (k m : ℕ) (f : r ≡ Book k m) where
-    was-read : result (cascade k (reverse (rulesDown a m))) ≡ read bytes
-    was-read = cc (w .outcome)
+    pub book-runs : (s : List ℕ) (room : ℕ) → run k s room (behavior (cascadeOf k a m) s) ≡ bookRun bytes s room
+    book-runs s room = cc (was-read bytes a r w k m f)
 
-    pub book-runs : (s : List ℕ) (room : ℕ) → run k s room (behavior (reverse (rulesDown a m)) s) ≡ bookRun bytes s room
-    book-runs s room = cc (was-read)
-
-    pub few-rules : m ≤ most-rules
-    few-rules = kept-few bytes k m a was-read
-
-    pub places-inside : (i : ℕ) → i < m → getD (a .places) i 0 < getD (a .lengths) i 0
-    places-inside i h =
-        omega (arith, kept-valid bytes k m a was-read i h .place-inside, pattern-long a (w .shaped) i (omega (arith, few-rules)))
+    pub applicable : Applicable m a
+    applicable =
+        let h = rules-held bytes a r w k m f in
+        record {
+          shaped = h .shaped;
+          few = h .few;
+          inside = λ i l. omega (arith, h .valid i l .place-inside, pattern-long a (h .shaped) i (omega (arith, h .few)));
+        }

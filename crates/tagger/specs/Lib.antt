@@ -1,2 +1,3 @@
 -- The run of a book.
 pub mod Run
+pub mod Rules

@@ -7,4 +7,4 @@ use Rattle.books.specs.Read.{read}
 use Rattle.sentences.specs.Run.{run}
 
 abbrev pub bookRun : List ℕ → List ℕ → ℕ → Outcome (List ℕ)
-bookRun book sentence room = andThen (read book) (λ b. run (b .tags) sentence room (behavior (b .rules) sentence))
+bookRun book sentence room = andThen (read book) (λ b. run (b .tags) sentence room (behavior b sentence))

@@ -1,22 +1,23 @@
 // The run of a book over a sentence.
 use answers::RunAnswer;
 use books::BookAnswer;
+use books::HEAD;
+use cascades::Rule;
 use limits::PATTERN;
 use limits::RULES;
 use sentences::Admission;
-use words::wide;
 ghost use mathlib.Core.Path.{_≡_};
 ghost use Prim.Native.Nat.{ℕ, _+_, _≤_, _<_};
-ghost use mathlib.Core.List.{reverse};
-ghost use lib.ListN.{length, getD, set, drop};
-ghost use Rattle.limits.specs.Limits.{most-rules};
+ghost use lib.ListN.{length, set, drop};
 ghost use Rattle.words.specs.Word.{prefix};
-ghost use Rattle.cascades.specs.Rewrite.{rewrite, apply, behavior};
-ghost use Rattle.books.specs.Kept.{arrays, Shaped, ruleAt, rulesDown};
+ghost use Rattle.cascades.specs.Rewrite.{rewrite, apply, applyAll, behavior};
+ghost use Rattle.cascades.specs.Value.{ruleOf, Formed};
+ghost use Rattle.books.specs.Arrays.{arrays, rulesOf, cascadeOf};
 ghost use Rattle.answers.specs.Answer.{runOutcome};
 ghost use Rattle.sentences.specs.Run.{run, changed, written, Ran};
 ghost use Rattle.sentences.specs.Parts.{Wrote};
 ghost use Rattle.tagger.specs.Run.{bookRun};
+ghost use Rattle.tagger.specs.Rules.{Applicable};
 
 // Whether the pattern u begins at the place i of s. It stops at the first difference.
 fn begins(s: &[u8], i: usize, u: &[u8]) -> bool
@@ -56,24 +57,15 @@ fn rewrite_leftmost(s: &mut [u8], u: &[u8], p: usize, tag: u8)
     }
 }
 
-// The rule i of the arrays, applied to s.
-fn apply_rule(
-    s: &mut [u8],
-    rows: &[[u8; PATTERN]; RULES],
-    lengths: &[usize; RULES],
-    places: &[u8; RULES],
-    tags: &[u8; RULES],
-    i: usize,
-)
-    requires { ⌜ Shaped (arrays rows lengths places tags) ⌝ }
-    requires { ⌜ (i < most-rules) × (getD (now places) i 0 < getD (now lengths) i 0) ⌝ }
-    ensures { λ r. ⌜ now (s .exit) ≡ apply (ruleAt (arrays (rows .entry) (lengths .entry) (places .entry) (tags .entry)) i) (now (s .entry)) ⌝ }
+// The rule, applied to s.
+fn apply_rule(s: &mut [u8], rule: Rule)
+    requires { ⌜ Formed rule ⌝ }
+    requires { ⌜ rule .place < rule .length ⌝ }
+    ensures { λ _. ⌜ now (s .exit) ≡ apply (ruleOf rule) (now (s .entry)) ⌝ }
 {
-    let row = rows[i];
-    let n = lengths[i];
-    let p = wide(places[i]);
-    let tag = tags[i];
-    rewrite_leftmost(s, &row[..n], p, tag);
+    let row = rule.row;
+    let n = rule.length;
+    rewrite_leftmost(s, &row[..n], rule.place, rule.tag);
 }
 
 // The first m rules of the arrays, applied to s in order.
@@ -81,17 +73,16 @@ fn apply_rules(
     s: &mut [u8],
     rows: &[[u8; PATTERN]; RULES],
     lengths: &[usize; RULES],
-    places: &[u8; RULES],
-    tags: &[u8; RULES],
+    heads: &[[u8; HEAD]; RULES],
     m: usize,
 )
-    requires { ⌜ Shaped (arrays rows lengths places tags) ⌝ }
-    requires { ⌜ (m ≤ most-rules) × ((i : ℕ) → i < m → getD (now places) i 0 < getD (now lengths) i 0) ⌝ }
-    ensures { λ r. ⌜ now (s .exit) ≡ behavior (reverse (rulesDown (arrays (rows .entry) (lengths .entry) (places .entry) (tags .entry)) m)) (now (s .entry)) ⌝ }
+    requires { ⌜ Applicable m (arrays rows lengths heads) ⌝ }
+    ensures { λ _. ⌜ now (s .exit) ≡ applyAll (rulesOf (arrays (rows .entry) (lengths .entry) (heads .entry)) m) (now (s .entry)) ⌝ }
 {
     let mut i = 0;
     while i < m {
-        apply_rule(s, rows, lengths, places, tags, i);
+        let rule = books::rule_at(rows, lengths, heads, i);
+        apply_rule(s, rule);
         i += 1;
     }
 }
@@ -103,16 +94,15 @@ fn write_rules(
     m: usize,
     rows: &[[u8; PATTERN]; RULES],
     lengths: &[usize; RULES],
-    places: &[u8; RULES],
-    tags: &[u8; RULES],
+    heads: &[[u8; HEAD]; RULES],
 ) -> usize
-    requires { ⌜ Shaped (arrays rows lengths places tags) ⌝ }
-    requires { ⌜ (m ≤ most-rules) × ((i : ℕ) → i < m → getD (now places) i 0 < getD (now lengths) i 0) × (length (now sentence) ≤ length (now out)) ⌝ }
-    ensures { λ r. ⌜ Wrote (behavior (reverse (rulesDown (arrays (rows .entry) (lengths .entry) (places .entry) (tags .entry)) m)) (now (sentence .entry))) (now (sentence .entry)) (now (out .entry)) (now (out .exit)) r ⌝ }
+    requires { ⌜ Applicable m (arrays rows lengths heads) ⌝ }
+    requires { ⌜ length (now sentence) ≤ length (now out) ⌝ }
+    ensures { λ r. ⌜ Wrote (applyAll (rulesOf (arrays (rows .entry) (lengths .entry) (heads .entry)) m) (now (sentence .entry))) (now (sentence .entry)) (now (out .entry)) (now (out .exit)) r ⌝ }
 {
     let n = sentence.len();
     sentences::copy(sentence, out);
-    apply_rules(&mut out[..n], rows, lengths, places, tags, m);
+    apply_rules(&mut out[..n], rows, lengths, heads, m);
     sentences::count_changes(sentence, &out[..n])
 }
 
@@ -124,18 +114,16 @@ fn run_rules(
     m: usize,
     rows: &[[u8; PATTERN]; RULES],
     lengths: &[usize; RULES],
-    places: &[u8; RULES],
-    tags: &[u8; RULES],
+    heads: &[[u8; HEAD]; RULES],
 ) -> RunAnswer
-    requires { ⌜ Shaped (arrays rows lengths places tags) ⌝ }
-    requires { ⌜ (m ≤ most-rules) × ((i : ℕ) → i < m → getD (now places) i 0 < getD (now lengths) i 0) ⌝ }
-    ensures { λ r. ⌜ Ran (run k (now (sentence .entry)) (length (now (out .entry))) (behavior (reverse (rulesDown (arrays (rows .entry) (lengths .entry) (places .entry) (tags .entry)) m)) (now (sentence .entry)))) (now (sentence .entry)) (now (out .entry)) (now (out .exit)) r ⌝ }
+    requires { ⌜ Applicable m (arrays rows lengths heads) ⌝ }
+    ensures { λ r. ⌜ Ran (run k (now (sentence .entry)) (length (now (out .entry))) (behavior (cascadeOf k (arrays (rows .entry) (lengths .entry) (heads .entry)) m) (now (sentence .entry)))) (now (sentence .entry)) (now (out .entry)) (now (out .exit)) r ⌝ }
 {
     let admission = sentences::admit(sentence, k, out.len());
     if let Admission::Refused(refusal) = admission {
         return RunAnswer::Refused(refusal);
     }
-    let changes = write_rules(sentence, out, m, rows, lengths, places, tags);
+    let changes = write_rules(sentence, out, m, rows, lengths, heads);
     RunAnswer::Changed(changes)
 }
 
@@ -146,9 +134,8 @@ pub fn run_book(book: &[u8], sentence: &[u8], out: &mut [u8]) -> RunAnswer
 {
     let mut rows = [[0u8; PATTERN]; RULES];
     let mut lengths = [0usize; RULES];
-    let mut places = [0u8; RULES];
-    let mut tags = [0u8; RULES];
-    let got = books::read_into(book, &mut rows, &mut lengths, &mut places, &mut tags);
+    let mut heads = [[0u8; HEAD]; RULES];
+    let got = books::read_into(book, &mut rows, &mut lengths, &mut heads);
     match got {
         BookAnswer::Refused(refusal) => RunAnswer::Refused(refusal),
         BookAnswer::Book { tags: k, rules } => run_rules(
@@ -158,8 +145,7 @@ pub fn run_book(book: &[u8], sentence: &[u8], out: &mut [u8]) -> RunAnswer
             rules,
             &rows,
             &lengths,
-            &places,
-            &tags,
+            &heads,
         ),
     }
 }

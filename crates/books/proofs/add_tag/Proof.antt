@@ -5,9 +5,9 @@ use Prim.Native.Nat.{ℕ, _+_, _-_}
 use lib.ListN.{length, getD}
 use Rattle.answers.specs.Outcome.{Outcome}
 use Rattle.cascades.specs.Rule.{Cascade}
-use Rattle.books.specs.Kept.{Kept, kept}
+use Rattle.books.specs.Arrays.{Arrays, holding}
 use Rattle.books.specs.Resume.{readCommands}
-use Rattle.books.proofs.Kept.{tagged-kept, tagged-shaped}
+use Rattle.books.proofs.Arrays.{tagged-arrays, tagged-shaped}
 use Rattle.books.proofs.Commands.{tag-nowhere, tag-seventh, tag-missing, tag-high, tag-taken}
 use Rattle.books.proofs.Resume.{resumes-refused, resumes-book}
 use Rattle.books.proofs.add_tag.Statement.{statement}
@@ -16,8 +16,8 @@ use Rattle.books.proofs.add_tag.Reads as reads
 use Rattle.books.proofs.add_tag.Lts as lts
 use Rattle.books.proofs.refused.Reads as refused-reads
 
-abbrev arrays : tie.Start → Kept
-arrays st = kept (st .args .rows .now) (st .args .lengths .now) (st .args .places .now) (st .args .tags .now)
+abbrev arrays : tie.Start → Arrays
+arrays st = holding (st .args .rows .now) (st .args .lengths .now) (st .args .heads .now)
 
 abbrev entry : tie.Start → Outcome Cascade
 entry st = readCommands (st .args .s .now) (st .args .k) (st .args .m) (arrays st) (st .args .at)
@@ -95,7 +95,7 @@ returns-5 : tie.Need-returns-5
 returns-5 c =
     let st = c .before .before .before .before .before .before .before in
     let tag = getD (st .args .s .now) (st .args .at + 1) 0 in
-    let after = tagged-kept (arrays st) (st .args .m - 1) tag in
+    let after = tagged-arrays (arrays st) (st .args .m - 1) tag in
     resumes-book (st .args .s .now) (entry st) (st .args .at + 1 + 1) after
     (tagged-shaped (arrays st) (st .pre .0) (st .args .m - 1) (omega arith) tag (omega arith)) (st .args .k) (st .args .m) (omega arith) (omega arith)
     (tag-taken (st .args .s .now) (st .args .k) (st .args .m) (arrays st) (st .args .at) (st .pre .1 .1) (st .pre .1 .2) (st .pre .0) (st .pre .1 .0) (search needs) (omega arith) (omega arith) (omega arith))

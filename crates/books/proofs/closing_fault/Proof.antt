@@ -2,16 +2,16 @@
 use Prim.Native.Nat.{_-_}
 use native.Mathlib.Omega.{arith}
 use borrow.Author.Needs.{needs}
-use Rattle.books.specs.Kept.{Kept, kept}
-use Rattle.books.proofs.Kept.{closing-empty, closing-outside, closing-same, closing-none}
+use Rattle.books.specs.Arrays.{Arrays, holding}
+use Rattle.books.proofs.Arrays.{closing-empty, closing-outside, closing-same, closing-none}
 use Rattle.books.proofs.closing_fault.Statement.{statement}
 use Rattle.books.proofs.closing_fault.Tie as tie
 use Rattle.books.proofs.closing_fault.Reads as reads
 use Rattle.books.proofs.closing_fault.Lts as lts
 use Rattle.words.proofs.wide.Reads as wide-reads
 
-abbrev arrays : tie.Start → Kept
-arrays s = kept (s .args .rows .now) (s .args .lengths .now) (s .args .places .now) (s .args .tags .now)
+abbrev arrays : tie.Start → Arrays
+arrays s = holding (s .args .rows .now) (s .args .lengths .now) (s .args .heads .now)
 
 returns : tie.Need-returns
 returns c = search needs
@@ -30,8 +30,14 @@ returns-2 c =
     let s = c .before .before .before in
     closing-empty (arrays s) (s .pre .0) (s .args .m) (s .pre .1) (c .before .before .if1 .left) (c .if2 .taken)
 
-element-copy-out-wide : tie.Need-element-copy-out-wide
-element-copy-out-wide c = search needs
+mul-wide : tie.Need-mul-wide
+mul-wide c = search needs
+
+index-1-wide : tie.Need-index-1-wide
+index-1-wide c = search needs
+
+index-2-wide : tie.Need-index-2-wide
+index-2-wide c = search needs
 
 wide-requires : tie.Need-wide-requires
 wide-requires c κs = search needs
@@ -52,8 +58,14 @@ index-2-if4 c =
     let s = c .before .before .before .before .before .before in
     omega (arith, s .pre .0 .length-short (s .args .m - 1), c .if3 .left)
 
-element-copy-out-if4 : tie.Need-element-copy-out-if4
-element-copy-out-if4 c = search needs
+mul-if4-2 : tie.Need-mul-if4-2
+mul-if4-2 c = search needs
+
+index-1-if4-2 : tie.Need-index-1-if4-2
+index-1-if4-2 c = search needs
+
+index-2-if4-2 : tie.Need-index-2-if4-2
+index-2-if4-2 c = search needs
 
 returns-4 : tie.Need-returns-4
 returns-4 c =
@@ -74,12 +86,16 @@ closing-fault-spec =
     mul-n
     element-copy-out-n
     returns-2
-    element-copy-out-wide
+    mul-wide
+    index-1-wide
+    index-2-wide
     wide-requires
     returns-3
     mul-if4
     index-1-if4
     index-2-if4
-    element-copy-out-if4
+    mul-if4-2
+    index-1-if4-2
+    index-2-if4-2
     returns-4
     returns-5)

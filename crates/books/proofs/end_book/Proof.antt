@@ -6,7 +6,7 @@ use mathlib.Core.Path.{_∙_, sym, ap}
 use lib.ListN.{length, getD}
 use Rattle.answers.specs.Outcome.{Outcome}
 use Rattle.cascades.specs.Rule.{Cascade}
-use Rattle.books.specs.Kept.{Kept, kept}
+use Rattle.books.specs.Arrays.{Arrays, holding}
 use Rattle.books.specs.Resume.{readCommands, cascadeOutcome}
 use Rattle.books.specs.declared.BookAnswer.{BookAnswer}
 use Rattle.books.proofs.Commands.{end-fault, end-more, end-whole}
@@ -17,8 +17,8 @@ use Rattle.books.proofs.end_book.Lts as lts
 use Rattle.books.proofs.closing_fault.Reads as closing-fault-reads
 use Rattle.books.proofs.refused.Reads as refused-reads
 
-abbrev arrays : tie.Start → Kept
-arrays st = kept (st .args .rows .now) (st .args .lengths .now) (st .args .places .now) (st .args .tags .now)
+abbrev arrays : tie.Start → Arrays
+arrays st = holding (st .args .rows .now) (st .args .lengths .now) (st .args .heads .now)
 
 abbrev entry : tie.Start → Outcome Cascade
 entry st = readCommands (st .args .s .now) (st .args .k) (st .args .m) (arrays st) (st .args .at)

@@ -6,9 +6,9 @@ use mathlib.Core.Path.{_∙_, sym, ap}
 use lib.ListN.{length, getD}
 use Rattle.answers.specs.Outcome.{Outcome}
 use Rattle.cascades.specs.Rule.{Cascade}
-use Rattle.books.specs.Kept.{Kept, kept}
+use Rattle.books.specs.Arrays.{Arrays, holding}
 use Rattle.books.specs.Resume.{readCommands}
-use Rattle.books.proofs.Kept.{opened-kept, opened-shaped}
+use Rattle.books.proofs.Arrays.{opened-arrays, opened-shaped}
 use Rattle.books.proofs.Commands.{rule-fault, rule-seventeenth, rule-no-place, rule-no-tag, rule-high, rule-opened}
 use Rattle.books.proofs.Resume.{resumes-refused, resumes-book}
 use Rattle.books.proofs.open_rule.Statement.{statement}
@@ -18,8 +18,8 @@ use Rattle.books.proofs.open_rule.Lts as lts
 use Rattle.books.proofs.closing_fault.Reads as closing-fault-reads
 use Rattle.books.proofs.refused.Reads as refused-reads
 
-abbrev arrays : tie.Start → Kept
-arrays st = kept (st .args .rows .now) (st .args .lengths .now) (st .args .places .now) (st .args .tags .now)
+abbrev arrays : tie.Start → Arrays
+arrays st = holding (st .args .rows .now) (st .args .lengths .now) (st .args .heads .now)
 
 abbrev entry : tie.Start → Outcome Cascade
 entry st = readCommands (st .args .s .now) (st .args .k) (st .args .m) (arrays st) (st .args .at)
@@ -32,7 +32,7 @@ refused-requires c κs = search needs
 
 returns : tie.Need-returns
 returns c =
-    let st = c .before .before .before .before .before .before .before in
+    let st = c .before .before .before .before .before .before in
     resumes-refused (st .args .s .now) (entry st) (st .args .at + 1 + 1 + 1) (arrays st) (st .pre .0) (c .refused .result) (c .before .before .closing-fault .result) (st .args .at) (c .refused .ensures)
     (rule-fault (st .args .s .now) (st .args .k) (st .args .m) (arrays st) (st .args .at) (st .pre .1 .1) (st .pre .1 .2) (c .before .before .closing-fault .result) (c .before .before .closing-fault .ensures) (search needs))
 
@@ -41,7 +41,7 @@ refused-requires-2 c κs = search needs
 
 returns-2 : tie.Need-returns-2
 returns-2 c =
-    let st = c .before .before .before .before .before .before .before .before in
+    let st = c .before .before .before .before .before .before .before in
     resumes-refused (st .args .s .now) (entry st) (st .args .at + 1 + 1 + 1) (arrays st) (st .pre .0) (c .refused2 .result) 7 (st .args .at) (c .refused2 .ensures)
     (rule-seventeenth (st .args .s .now) (st .args .k) (st .args .m) (arrays st) (st .args .at) (st .pre .1 .1) (st .pre .1 .2) (cc) (omega arith))
 
@@ -53,7 +53,7 @@ refused-requires-3 c κs = search needs
 
 returns-3 : tie.Need-returns-3
 returns-3 c =
-    let st = c .before .before .before .before .before .before .before .before .before in
+    let st = c .before .before .before .before .before .before .before .before in
     resumes-refused (st .args .s .now) (entry st) (st .args .at + 1 + 1 + 1) (arrays st) (st .pre .0) (c .refused3 .result) 1 (st .args .at + 1) (c .refused3 .ensures)
     (rule-no-place (st .args .s .now) (st .args .k) (st .args .m) (arrays st) (st .args .at) (st .pre .1 .1) (st .pre .1 .2) (cc) (omega arith) (omega arith))
 
@@ -65,7 +65,7 @@ refused-requires-4 c κs = search needs
 
 returns-4 : tie.Need-returns-4
 returns-4 c =
-    let st = c .before .before .before .before .before .before .before .before .before .before in
+    let st = c .before .before .before .before .before .before .before .before .before in
     resumes-refused (st .args .s .now) (entry st) (st .args .at + 1 + 1 + 1) (arrays st) (st .pre .0) (c .refused4 .result) 1 (st .args .at + 1 + 1) (c .refused4 .ensures)
     (rule-no-tag (st .args .s .now) (st .args .k) (st .args .m) (arrays st) (st .args .at) (st .pre .1 .1) (st .pre .1 .2) (cc) (omega arith) (omega arith))
 
@@ -77,7 +77,7 @@ refused-requires-5 c κs = search needs
 
 returns-5 : tie.Need-returns-5
 returns-5 c =
-    let st = c .before .before .before .before .before .before .before .before .before .before .before .before in
+    let st = c .before .before .before .before .before .before .before .before .before .before .before in
     resumes-refused (st .args .s .now) (entry st) (st .args .at + 1 + 1 + 1) (arrays st) (st .pre .0) (c .refused5 .result) 4 (st .args .at + 1 + 1) (c .refused5 .ensures)
     (rule-high (st .args .s .now) (st .args .k) (st .args .m) (arrays st) (st .args .at) (st .pre .1 .1) (st .pre .1 .2) (cc) (omega arith) (omega arith) (omega arith))
 
@@ -87,24 +87,24 @@ mul-lengths c = search needs
 element-write-lengths : tie.Need-element-write-lengths
 element-write-lengths c = search needs
 
-shared-slice-read-places : tie.Need-shared-slice-read-places
-shared-slice-read-places c = search needs
+shared-slice-read-t17 : tie.Need-shared-slice-read-t17
+shared-slice-read-t17 c = search needs
 
-element-write-places : tie.Need-element-write-places
-element-write-places c = search needs
+mul-t15 : tie.Need-mul-t15
+mul-t15 c = search needs
 
-element-write-tags : tie.Need-element-write-tags
-element-write-tags c = search needs
+element-set-from-heads : tie.Need-element-set-from-heads
+element-set-from-heads c = search needs
 
-add-t17 : tie.Need-add-t17
-add-t17 c = search needs
+add-t15 : tie.Need-add-t15
+add-t15 c = search needs
 
 returns-6 : tie.Need-returns-6
 returns-6 c =
-    let st = c .before .before .before .before .before .before .before .before .before .before .before .before in
+    let st = c .before .before .before .before .before .before .before .before .before .before .before in
     let place = getD (st .args .s .now) (st .args .at + 1) 0 in
     let tag = getD (st .args .s .now) (st .args .at + 1 + 1) 0 in
-    let after = opened-kept (arrays st) (st .args .m) place tag in
+    let after = opened-arrays (arrays st) (st .args .m) place tag in
     resumes-book (st .args .s .now) (entry st) (st .args .at + 1 + 1 + 1) after
     (opened-shaped (arrays st) (st .pre .0) (st .args .m) (omega arith) place tag) (st .args .k) (st .args .m + 1) (omega arith) (omega arith)
     (rule-opened (st .args .s .now) (st .args .k) (st .args .m) (arrays st) (st .args .at) (st .pre .1 .1) (st .pre .1 .2) (cc) (omega arith) (st .pre .0) (omega arith) (omega arith))
@@ -129,8 +129,8 @@ open-rule-spec =
     returns-5
     mul-lengths
     element-write-lengths
-    shared-slice-read-places
-    element-write-places
-    element-write-tags
-    add-t17
+    shared-slice-read-t17
+    mul-t15
+    element-set-from-heads
+    add-t15
     returns-6)

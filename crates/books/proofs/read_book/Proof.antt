@@ -1,8 +1,8 @@
 -- `books::read_book` meets its contract: it reads into arrays of its own, and answers their number.
 use mathlib.Core.Path.{_∙_, ap}
 use Rattle.books.specs.Answer.{sizes}
-use Rattle.books.specs.Kept.{Kept, kept}
-use Rattle.books.proofs.Kept.{fresh-shaped}
+use Rattle.books.specs.Arrays.{Arrays, holding}
+use Rattle.books.proofs.Arrays.{fresh-shaped}
 use Rattle.books.proofs.Resume.{sizes-read}
 use Rattle.books.proofs.read_book.Statement.{statement}
 use Rattle.books.proofs.read_book.Tie as tie
@@ -16,7 +16,7 @@ read-into-requires c κs = fresh-shaped
 returns : tie.Need-returns
 returns c =
     let got = c .read-into .last .1 in
-    let after = kept (got .0) (got .1 .0) (got .1 .1 .0) (got .1 .1 .1 .0) in
+    let after = holding (got .0) (got .1 .0) (got .1 .1 .0) in
     sizes-read (c .read-into .result) after ∙ ap sizes (c .read-into .ensures .outcome)
 
 pub read-book-spec : {M : Type 1} → statement M

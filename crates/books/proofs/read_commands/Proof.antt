@@ -5,7 +5,7 @@ use native.Mathlib.Omega.{arith}
 use mathlib.Core.Path.{_≡_, refl, _∙_, sym, ap}
 use lib.ListN.{length}
 use Rattle.limits.specs.Limits.{most-rules}
-use Rattle.books.specs.Kept.{kept, Shaped}
+use Rattle.books.specs.Arrays.{holding, Shaped}
 use Rattle.books.specs.Resume.{readCommands, cascadeOutcome}
 use Rattle.books.specs.declared.BookAnswer.{BookAnswer}
 use Rattle.books.proofs.Commands.{command-missing}
@@ -20,12 +20,12 @@ use Rattle.books.proofs.read_rule.Reads as read-rule-reads
 use Rattle.books.proofs.refused.Reads as refused-reads
 
 abbrev Inv-loop : tie.InvT-loop
-Inv-loop s k0 m0 rows₀ lengths₀ places₀ new₀ k₀ m₀ at₀ rows lengths places new k m at =
-    (m ≤ most-rules) × (at ≤ length s) × Shaped (kept rows lengths places new)
-    × (readCommands s k m (kept rows lengths places new) at ≡ readCommands s k0 m0 (kept rows₀ lengths₀ places₀ new₀) 2)
+Inv-loop s k0 m0 rows₀ lengths₀ heads₀ k₀ m₀ at₀ rows lengths heads k m at =
+    (m ≤ most-rules) × (at ≤ length s) × Shaped (holding rows lengths heads)
+    × (readCommands s k m (holding rows lengths heads) at ≡ readCommands s k0 m0 (holding rows₀ lengths₀ heads₀) 2)
 
 abbrev μ-loop : tie.MeasureT-loop
-μ-loop s k0 m0 rows₀ lengths₀ places₀ new₀ k₀ m₀ at₀ rows lengths places new k m at = length s - at
+μ-loop s k0 m0 rows₀ lengths₀ heads₀ k₀ m₀ at₀ rows lengths heads k m at = length s - at
 
 loop-holds : tie.Need-loop-holds Inv-loop μ-loop
 loop-holds c = let st = c .before in (st .pre .1 .0, st .pre .1 .1, st .pre .0, refl)
@@ -44,8 +44,8 @@ enum-told c = search needs
 
 returns : tie.Need-returns Inv-loop μ-loop
 returns c =
-    let l = c .before .before .before .before .before .before .before .before .before .before in
-    let s = c .before .before .before .before .before .before .before .before .before .before .before .before .args .s .now in
+    let l = c .before .before .before .before .before .before .before .before .before in
+    let s = c .before .before .before .before .before .before .before .before .before .before .before .args .s .now in
     let r = c .before .before .add-tag in
     refused-ends s _ _ (l .loop .at + 1 + 1) _ (r .result) _ (c .enum-told .given .1) (r .ensures) (l .loop .inv .3)
 
@@ -57,8 +57,8 @@ loop-less c = omega (arith, c .before .before .before .add-tag .ensures .inside 
 
 loop-again : tie.Need-loop-again Inv-loop μ-loop
 loop-again c =
-    let l = c .before .before .before .before .before .before .before .before .before .before .before in
-    let s = c .before .before .before .before .before .before .before .before .before .before .before .before .before .args .s .now in
+    let l = c .before .before .before .before .before .before .before .before .before .before in
+    let s = c .before .before .before .before .before .before .before .before .before .before .before .before .args .s .now in
     let r = c .before .before .before .add-tag in
     let book = c .before .got .given in
     book-goes-on s _ _ (l .loop .at + 1 + 1) (l .loop .at + 2) _ (r .result) (book .0 .0) (book .0 .1 .0) (r .ensures) (book .1) (l .loop .inv .3) (omega arith)
@@ -68,7 +68,7 @@ end-book-requires c κs = search needs
 
 returns-2 : tie.Need-returns-2 Inv-loop μ-loop
 returns-2 c =
-    let l = c .before .before .before .before .before .before .before .before .before in
+    let l = c .before .before .before .before .before .before .before .before in
     record { outcome = c .end-book .ensures ∙ l .loop .inv .3; shaped = l .loop .inv .2 }
 
 read-rule-requires : tie.Need-read-rule-requires Inv-loop μ-loop
@@ -82,8 +82,8 @@ enum-told-2 c = search needs
 
 returns-3 : tie.Need-returns-3 Inv-loop μ-loop
 returns-3 c =
-    let l = c .before .before .before .before .before .before .before .before .before .before .before in
-    let s = c .before .before .before .before .before .before .before .before .before .before .before .before .before .args .s .now in
+    let l = c .before .before .before .before .before .before .before .before .before .before in
+    let s = c .before .before .before .before .before .before .before .before .before .before .before .before .args .s .now in
     let r = c .before .before .read-rule in
     refused-ends s _ _ (l .loop .at + 1 + 1 + 1) _ (r .result) _ (c .enum-told2 .given .1) (r .ensures) (l .loop .inv .3)
 
@@ -95,8 +95,8 @@ loop-less-2 c = omega (arith, c .before .before .before .read-rule .ensures .ins
 
 loop-again-2 : tie.Need-loop-again-2 Inv-loop μ-loop
 loop-again-2 c =
-    let l = c .before .before .before .before .before .before .before .before .before .before .before .before in
-    let s = c .before .before .before .before .before .before .before .before .before .before .before .before .before .before .args .s .now in
+    let l = c .before .before .before .before .before .before .before .before .before .before .before in
+    let s = c .before .before .before .before .before .before .before .before .before .before .before .before .before .args .s .now in
     let r = c .before .before .before .read-rule in
     let book = c .before .got2 .given in
     book-goes-on s _ _ (l .loop .at + 1 + 1 + 1) (l .loop .at + 3) _ (r .result) (book .0 .0) (book .0 .1 .0) (r .ensures) (book .1) (l .loop .inv .3) (omega arith)
@@ -108,7 +108,7 @@ returns-4 : tie.Need-returns-4 Inv-loop μ-loop
 returns-4 c =
     let l = c .before .before in
     let s = c .before .before .before .before .args .s .now in
-    let a = kept (l .loop .rows) (l .loop .lengths) (l .loop .places) (l .loop .new) in
+    let a = holding (l .loop .rows) (l .loop .lengths) (l .loop .heads) in
     record {
       outcome =
           ap (λ (r : BookAnswer). cascadeOutcome r a) (c .refused .ensures)

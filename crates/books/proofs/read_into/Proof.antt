@@ -1,7 +1,7 @@
 -- `books::read_into` meets its contract.
 use mathlib.Core.Path.{refl}
 use Rattle.books.specs.Read.{read}
-use Rattle.books.specs.Kept.{kept}
+use Rattle.books.specs.Arrays.{holding}
 use Rattle.books.proofs.Resume.{refused-ends, book-goes-on, ends-whole}
 use borrow.Author.Needs.{needs}
 use Rattle.books.proofs.read_into.Statement.{statement}
@@ -23,28 +23,28 @@ enum-told c = search needs
 returns : tie.Need-returns
 returns c =
     let st = c .before .before .before .before in
-    let a = kept (st .args .rows .now) (st .args .lengths .now) (st .args .places .now) (st .args .new .now) in
+    let a = holding (st .args .rows .now) (st .args .lengths .now) (st .args .heads .now) in
     let o = c .before .before .open-book in
     let s = st .args .s .now in
     ends-whole s (read s) a (o .result) refl (refused-ends s (read s) (read s) 2 a (o .result) _ (c .enum-told .given .1) (o .ensures a (st .pre)) refl)
 
 read-commands-requires : tie.Need-read-commands-requires
 read-commands-requires c κs =
-    let st = c .before .before .before .before .before .before .before .before .before in
-    let a = kept (st .args .rows .now) (st .args .lengths .now) (st .args .places .now) (st .args .new .now) in
-    let o = c .before .before .before .before .before .before .before .open-book in
+    let st = c .before .before .before .before .before .before .before .before in
+    let a = holding (st .args .rows .now) (st .args .lengths .now) (st .args .heads .now) in
+    let o = c .before .before .before .before .before .before .open-book in
     let s = st .args .s .now in
-    let b = c .before .before .before .before .before .opened .given in
+    let b = c .before .before .before .before .opened .given in
     let on = book-goes-on s (read s) (read s) 2 2 a (o .result) _ _ (o .ensures a (st .pre)) (b .1) refl refl in
     (st .pre, (on .0, on .1))
 
 returns-2 : tie.Need-returns-2
 returns-2 c =
-    let st = c .before .before .before .before .before .before .before .before .before .before in
-    let a = kept (st .args .rows .now) (st .args .lengths .now) (st .args .places .now) (st .args .new .now) in
-    let o = c .before .before .before .before .before .before .before .before .open-book in
+    let st = c .before .before .before .before .before .before .before .before .before in
+    let a = holding (st .args .rows .now) (st .args .lengths .now) (st .args .heads .now) in
+    let o = c .before .before .before .before .before .before .before .open-book in
     let s = st .args .s .now in
-    let b = c .before .before .before .before .before .before .opened .given in
+    let b = c .before .before .before .before .before .opened .given in
     let on = book-goes-on s (read s) (read s) 2 2 a (o .result) _ _ (o .ensures a (st .pre)) (b .1) refl refl in
     ends-whole s _ _ (c .read-commands .result) (on .3) (c .read-commands .ensures)
 

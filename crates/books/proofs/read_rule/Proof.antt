@@ -1,6 +1,6 @@
 -- `books::read_rule` meets its contract.
 use Prim.Native.Nat.{_+_}
-use Rattle.books.specs.Kept.{kept}
+use Rattle.books.specs.Arrays.{holding}
 use Rattle.books.specs.Resume.{readCommands}
 use Rattle.books.proofs.Commands.{command-unknown}
 use Rattle.books.proofs.Resume.{resumes-refused}
@@ -28,7 +28,7 @@ returns-2 : tie.Need-returns-2
 returns-2 c =
     let st = c .before .before .before .before in
     let s = st .args .s .now in
-    let a = kept (st .args .rows .now) (st .args .lengths .now) (st .args .places .now) (st .args .tags .now) in
+    let a = holding (st .args .rows .now) (st .args .lengths .now) (st .args .heads .now) in
     let from = readCommands s (st .args .k) (st .args .m) a (st .args .at) in
     resumes-refused s from (st .args .at + 1 + 1 + 1) a (st .pre .0) (c .refused .result) 1 (st .args .at) (c .refused .ensures)
     (command-unknown s (st .args .k) (st .args .m) a (st .args .at) (st .pre .1 .1) (st .pre .1 .2) (search needs) (st .pre .1 .3))

@@ -3,13 +3,13 @@ use native.Mathlib.Omega.{arith}
 use borrow.Author.Needs.{needs}
 use mathlib.Core.Path.{refl}
 use lib.ListN.{length}
+use Rattle.answers.specs.Outcome.{nothing}
 use Rattle.answers.specs.declared.Refusal.the-variants.{Bare}
-use Rattle.books.specs.Read.{read}
-use Rattle.books.specs.Kept.{kept as arrays-of}
-use Rattle.books.proofs.Kept.{fresh-shaped}
-use Rattle.compiler.specs.Answer.{required}
+use Rattle.compilation.specs.Compile.{tested}
+use Rattle.books.specs.Arrays.{holding}
+use Rattle.books.proofs.Arrays.{fresh-shaped}
 use Rattle.compiler.specs.declared.CompileAnswer.{CompileAnswer}
-use Rattle.compiler.proofs.Reading.{bare, too-low, too-high, book-refused, read-readable, book-ended, all-three}
+use Rattle.compiler.proofs.Reading.{refused-ended, too-low, too-high, book-refused, read-readable, book-ended, all-three}
 use Rattle.compiler.proofs.compile.Statement.{statement}
 use Rattle.compiler.proofs.compile.Tie as tie
 use Rattle.compiler.proofs.compile.Reads as reads
@@ -19,13 +19,17 @@ use Rattle.compiler.proofs.compile_read.Reads as compile-read-reads
 
 returns : tie.Need-returns
 returns c =
-    let st = c .before .before .before .before in
-    all-three (bare 8 refl _ (too-low (st .args .book .now) (st .args .ceiling) (length (st .args .work .now)) (length (st .args .out .now)) (omega arith)) (CompileAnswer.Refused (Bare 8)) refl (required (st .args .ceiling) (read (st .args .book .now))) (st .args .work .now) (st .args .out .now))
+    let a = c .before .before .before .before .args in
+    let n = length (a .work .now) in
+    all-three (a .book .now) (a .ceiling) n
+    (refused-ended (tested (a .book .now) (a .ceiling) n) (a .ceiling) 8 nothing (too-low (a .book .now) (a .ceiling) n (omega arith)) (CompileAnswer.Refused (Bare 8)) refl (a .work .now) (a .out .now))
 
 returns-2 : tie.Need-returns-2
 returns-2 c =
-    let st = c .before .before .before .before .before in
-    all-three (bare 8 refl _ (too-high (st .args .book .now) (st .args .ceiling) (length (st .args .work .now)) (length (st .args .out .now)) (omega arith) (omega arith)) (CompileAnswer.Refused (Bare 8)) refl (required (st .args .ceiling) (read (st .args .book .now))) (st .args .work .now) (st .args .out .now))
+    let a = c .before .before .before .before .before .args in
+    let n = length (a .work .now) in
+    all-three (a .book .now) (a .ceiling) n
+    (refused-ended (tested (a .book .now) (a .ceiling) n) (a .ceiling) 8 nothing (too-high (a .book .now) (a .ceiling) n (omega arith) (omega arith)) (CompileAnswer.Refused (Bare 8)) refl (a .work .now) (a .out .now))
 
 read-into-requires : tie.Need-read-into-requires
 read-into-requires c κs = fresh-shaped
@@ -38,18 +42,19 @@ enum-known-got-2 c = search needs
 
 compile-read-requires : tie.Need-compile-read-requires
 compile-read-requires c κs =
-    let st = c .before .before .before .before .before .before .before .before .before .before .before .before .before .before .before .before .before .before .before in
-    let r = c .before .before .before .before .before .before .before .before .before .read-into in
-    let a = arrays-of (r .last .1 .0) (r .last .1 .1 .0) (r .last .1 .1 .1 .0) (r .last .1 .1 .1 .1 .0) in
-    let book = c .before .before .before .before .before .before .before .got2 .given in
-    read-readable (st .args .book .now) (st .args .ceiling) (length (st .args .work .now)) (length (st .args .out .now)) (omega arith) (omega arith) a (r .result) (r .ensures) (book .0 .0) (book .0 .1 .0) (book .1)
+    let a = c .before .before .before .before .before .before .before .before .before .before .before .before .before .before .before .before .before .args in
+    let r = c .before .before .before .before .before .before .before .before .read-into in
+    let held = holding (r .last .1 .0) (r .last .1 .1 .0) (r .last .1 .1 .1 .0) in
+    let book = c .before .before .before .before .before .before .got2 .given in
+    read-readable (a .book .now) (a .ceiling) (length (a .work .now)) (omega arith) (omega arith) held (r .result) (r .ensures) (book .0 .0) (book .0 .1 .0) (book .1)
 
 returns-3 : tie.Need-returns-3
 returns-3 c =
-    let st = c .before .before .before .before .before .before .before .before .before .before .before .before .before in
+    let a = c .before .before .before .before .before .before .before .before .before .before .before .before .args in
     let r = c .before .before .before .read-into in
-    let a = arrays-of (r .last .1 .0) (r .last .1 .1 .0) (r .last .1 .1 .1 .0) (r .last .1 .1 .1 .1 .0) in
-    all-three (book-refused (st .args .book .now) (st .args .ceiling) (length (st .args .work .now)) (length (st .args .out .now)) (omega arith) (omega arith) a (r .result) (r .ensures) _ (c .before .got .given .1) (CompileAnswer.Refused (c .before .got .given .0 .0)) refl (required (st .args .ceiling) (read (st .args .book .now))) (st .args .work .now) (st .args .out .now))
+    let held = holding (r .last .1 .0) (r .last .1 .1 .0) (r .last .1 .1 .1 .0) in
+    all-three (a .book .now) (a .ceiling) (length (a .work .now))
+    (book-refused (a .book .now) (a .ceiling) (length (a .work .now)) (omega arith) (omega arith) held (r .result) (r .ensures) _ (c .before .got .given .1) (CompileAnswer.Refused (c .before .got .given .0 .0)) refl (a .work .now) (a .out .now))
 
 same-length : tie.Need-same-length
 same-length c = search needs
@@ -59,11 +64,12 @@ same-length-2 c = search needs
 
 returns-4 : tie.Need-returns-4
 returns-4 c =
-    let st = c .before .before .before .before .before .before .before .before .before .before .before .before .before .before .before .before .before .before .before .before .before .before .before .before in
-    let r = c .before .before .before .before .before .before .before .before .before .before .before .before .before .before .read-into in
-    let a = arrays-of (r .last .1 .0) (r .last .1 .1 .0) (r .last .1 .1 .1 .0) (r .last .1 .1 .1 .1 .0) in
-    let book = c .before .before .before .before .before .before .before .before .before .before .before .before .got2 .given in
-    all-three (book-ended (st .args .book .now) (st .args .ceiling) (length (st .args .work .now)) (length (st .args .out .now)) (omega (arith, c .before .before .before .before .before .before .before .before .before .before .before .before .before .before .before .before .before .before .before .before .if1 .left)) (omega (arith, c .before .before .before .before .before .before .before .before .before .before .before .before .before .before .before .before .before .before .before .if2 .left)) a (r .result) (r .ensures) (book .0 .0) (book .0 .1 .0) (book .1) _ _ _ _ _ refl refl (c .before .before .before .before .compile-read .ensures))
+    let a = c .before .before .before .before .before .before .before .before .before .before .before .before .before .before .before .before .before .before .before .before .before .before .args in
+    let r = c .before .before .before .before .before .before .before .before .before .before .before .before .before .read-into in
+    let held = holding (r .last .1 .0) (r .last .1 .1 .0) (r .last .1 .1 .1 .0) in
+    let book = c .before .before .before .before .before .before .before .before .before .before .before .got2 .given in
+    all-three (a .book .now) (a .ceiling) (length (a .work .now))
+    (book-ended (a .book .now) (a .ceiling) (length (a .work .now)) (omega (arith, c .before .before .before .before .before .before .before .before .before .before .before .before .before .before .before .before .before .before .if1 .left)) (omega (arith, c .before .before .before .before .before .before .before .before .before .before .before .before .before .before .before .before .before .if2 .left)) held (r .result) (r .ensures) (book .0 .0) (book .0 .1 .0) (book .1) _ _ _ _ _ refl (c .before .before .before .before .compile-read .ensures))
 
 pub compile-spec : {M : Type 1} → statement M
 compile-spec =

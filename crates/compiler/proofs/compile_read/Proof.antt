@@ -3,7 +3,7 @@ use Prim.Native.Nat.{_+_, _*_}
 use native.Mathlib.Omega.{arith}
 use borrow.Author.Needs.{needs}
 use mathlib.Core.Path.{refl}
-use Rattle.books.specs.Kept.{Kept as Arrays, kept as arrays-of}
+use Rattle.books.specs.Arrays.{Arrays, holding}
 use Rattle.compiler.proofs.Reading.{product-small, compilable, readable, short, ended}
 use Rattle.compiler.proofs.compile_read.Statement.{statement}
 use Rattle.compiler.proofs.compile_read.Tie as tie
@@ -14,7 +14,7 @@ use Rattle.words.proofs.wide.Reads as wide-reads
 use Rattle.compiler.proofs.wipe.Reads as wipe-reads
 
 abbrev the-arrays : tie.Start → Arrays
-the-arrays st = arrays-of (st .args .rows .now) (st .args .lengths .now) (st .args .places .now) (st .args .tags .now)
+the-arrays st = holding (st .args .rows .now) (st .args .lengths .now) (st .args .heads .now)
 
 mul-entries : tie.Need-mul-entries
 mul-entries c = search needs
@@ -35,13 +35,13 @@ mul-entries-3 : tie.Need-mul-entries-3
 mul-entries-3 c =
     let st = c .before .before .before .before .before in
     let w = c .before .before .wide in
-    omega (arith, (product-small (16 * st .args .ceiling) (w .result + 1) (5 * st .args .m + 8) (omega (arith, st .pre .most)) (omega (arith, w .ensures .0, st .pre .tags)) (omega (arith, st .pre .few))) .0)
+    omega (arith, (product-small (16 * st .args .ceiling) (w .result + 1) (5 * st .args .m + 8) (omega (arith, st .pre .most)) (omega (arith, w .ensures .0, st .pre .tags)) (omega (arith, st .pre .held .few))) .0)
 
 mul-entries-4 : tie.Need-mul-entries-4
 mul-entries-4 c =
     let st = c .before .before .before .before .before .before in
     let w = c .before .before .before .wide in
-    omega (arith, (product-small (16 * st .args .ceiling) (w .result + 1) (5 * st .args .m + 8) (omega (arith, st .pre .most)) (omega (arith, w .ensures .0, st .pre .tags)) (omega (arith, st .pre .few))) .1)
+    omega (arith, (product-small (16 * st .args .ceiling) (w .result + 1) (5 * st .args .m + 8) (omega (arith, st .pre .most)) (omega (arith, w .ensures .0, st .pre .tags)) (omega (arith, st .pre .held .few))) .1)
 
 returns : tie.Need-returns
 returns c =

@@ -2,28 +2,33 @@
 use Prim.Native.Nat.{ℕ, _+_, _-_}
 use native.Mathlib.Omega.{arith}
 use borrow.Author.Needs.{needs}
-use mathlib.Core.Path.{_≡_, refl}
+use mathlib.Core.Path.{_≡_, refl, sym, subst}
 use mathlib.Core.List.{List}
 use lib.ListN.{length}
-use Rattle.books.specs.Kept.{Kept as Arrays, kept as arrays-of}
+use Rattle.limits.specs.Limits.{longest-pattern}
+use Rattle.cascades.specs.Rule.{Rule, ValidRule}
+use Rattle.cascades.specs.Value.{ruleOf}
+use Rattle.addition.specs.Addition.{Added}
+use Rattle.books.specs.Arrays.{Arrays, holding}
 use Rattle.compiler.specs.Rules.{Compilable}
 use Rattle.compiler.proofs.Progress.{Progress, begun, progress-start, addable, progress-next, too-many, kept-too-many, gave-rule, all-kept, ready, outcome-is}
 use Rattle.compiler.proofs.compile_rules.Statement.{statement}
 use Rattle.compiler.proofs.compile_rules.Tie as tie
 use Rattle.compiler.proofs.compile_rules.Reads as reads
 use Rattle.compiler.proofs.compile_rules.Lts as lts
-use Rattle.compiler.proofs.add_at.Reads as add-at-reads
+use Rattle.compiler.proofs.add_to.Reads as add-to-reads
+use Rattle.books.proofs.rule_at.Reads as rule-at-reads
 use Rattle.compiler.proofs.finish.Reads as finish-reads
 use Rattle.identity.proofs.write_identity.Reads as write-identity-reads
 
 abbrev Inv-loop : tie.InvT-loop
-Inv-loop work₀ g ceiling m rows lengths places tags out n₀ i₀ work n i = Progress g work₀ work ceiling m (arrays-of rows lengths places tags) i n
+Inv-loop work₀ g ceiling m rows lengths heads out n₀ i₀ work n i = Progress g work₀ work ceiling m (holding rows lengths heads) i n
 
 abbrev μ-loop : tie.MeasureT-loop
-μ-loop work₀ g ceiling m rows lengths places tags out n₀ i₀ work n i = m - i
+μ-loop work₀ g ceiling m rows lengths heads out n₀ i₀ work n i = m - i
 
 abbrev the-arrays : tie.Start Inv-loop μ-loop → Arrays
-the-arrays st = arrays-of (st .args .rows .now) (st .args .lengths .now) (st .args .places .now) (st .args .tags .now)
+the-arrays st = holding (st .args .rows .now) (st .args .lengths .now) (st .args .heads .now)
 
 -- after the identity's row
 now-ok : (st : tie.Start Inv-loop μ-loop) (X : List ℕ) → length X ≡ length (st .args .work .now) → Compilable (st .args .g) X (st .args .ceiling) (st .args .m) (the-arrays st)
@@ -38,13 +43,18 @@ loop-holds c =
     let w = c .before .before .write-identity in
     progress-start (st .args .g) (w .last .0) (st .args .ceiling) (st .args .m) (the-arrays st) (now-ok st (w .last .0) (w .ensures .1 .long)) (w .ensures .0)
 
-add-at-requires : tie.Need-add-at-requires Inv-loop μ-loop
-add-at-requires c κs =
-    let st = c .before .before .before .before .before .before .before .before .before in
-    let w = c .before .before .before .before .before .write-identity in
-    let l = c .before .before .loop in (
-      st .pre .shaped,
-      (omega (arith, st .pre .few), addable (st .args .g) (w .last .0) (st .args .ceiling) (st .args .m) (the-arrays st) (now-ok st (w .last .0) (w .ensures .1 .long)) (l .work) (l .i) (l .n) (l .inv) (omega arith) _ (st .pre .valid _ (omega arith))),
+rule-at-requires : tie.Need-rule-at-requires Inv-loop μ-loop
+rule-at-requires c κs = let st = c .before .before .before .before .before .before .before .before in (st .pre .readable .held .shaped, omega (arith, st .pre .readable .held .few))
+
+add-to-requires : tie.Need-add-to-requires Inv-loop μ-loop
+add-to-requires c κs =
+    let st = c .before .before .before .before .before .before .before .before .before .before in
+    let w = c .before .before .before .before .before .before .write-identity in
+    let l = c .before .before .before .loop in
+    let r = c .before .rule-at in (
+      r .ensures .1,
+      addable (st .args .g) (w .last .0) (st .args .ceiling) (st .args .m) (the-arrays st) (now-ok st (w .last .0) (w .ensures .1 .long)) (l .work) (l .i) (l .n) (l .inv) (omega arith)
+          (ruleOf (r .result)) (subst (ValidRule longest-pattern (st .args .g .tags)) (sym (r .ensures .0)) (st .pre .readable .held .valid _ (omega arith))),
     )
 
 add-t19 : tie.Need-add-t19 Inv-loop μ-loop
@@ -55,14 +65,17 @@ same-length c = search needs
 
 returns : tie.Need-returns Inv-loop μ-loop
 returns c =
-    let st = c .before .before .before .before .before .before .before .before .before .before .before .before .before in
-    let w = c .before .before .before .before .before .before .before .before .before .write-identity in
-    let l = c .before .before .before .before .before .before .loop in
-    let u = c .before .before .before .add-at in (
-      gave-rule _ (l .i + 1) (too-many (st .args .g) (w .last .0) (st .args .ceiling) (st .args .m) (the-arrays st) (now-ok st (w .last .0) (w .ensures .1 .long)) (l .work) (l .i) (l .n) (l .inv) (omega arith) (u .last .0) (u .result) (u .ensures) (omega arith) (length (st .args .out .now)))
+    let st = c .before .before .before .before .before .before .before .before .before .before .before .before .before .before in
+    let w = c .before .before .before .before .before .before .before .before .before .before .write-identity in
+    let l = c .before .before .before .before .before .before .before .loop in
+    let less = c .before .before .before .before .before .before .loop-test .taken in
+    let r = c .before .before .before .before .before .rule-at in
+    let u = c .before .before .before .add-to in
+    let added = subst (λ (x : Rule). Added (st .args .g) (l .work) (u .last .0) (l .n) (st .args .ceiling) x (u .result)) (r .ensures .0) (u .ensures) in (
+      gave-rule _ (l .i + 1) (too-many (st .args .g) (w .last .0) (st .args .ceiling) (st .args .m) (the-arrays st) (now-ok st (w .last .0) (w .ensures .1 .long)) (l .work) (l .i) (l .n) (l .inv) (omega (arith, less)) (u .last .0) (u .result) added (omega arith) (length (st .args .out .now)))
           (st .args .out .now) _ refl,
-      all-kept (st .args .g) (st .args .work .now) (w .last .0) (u .last .0) (omega (arith, st .pre .rows, st .pre .some)) (w .ensures .1)
-          (kept-too-many (st .args .g) (w .last .0) (st .args .ceiling) (st .args .m) (the-arrays st) (now-ok st (w .last .0) (w .ensures .1 .long)) (l .work) (l .i) (l .n) (l .inv) (omega arith) (u .last .0) (u .result) (u .ensures)),
+      all-kept (st .args .g) (st .args .work .now) (w .last .0) (u .last .0) (omega (arith, st .pre .rows, st .pre .readable .some)) (w .ensures .1)
+          (kept-too-many (st .args .g) (w .last .0) (st .args .ceiling) (st .args .m) (the-arrays st) (now-ok st (w .last .0) (w .ensures .1 .long)) (l .work) (l .i) (l .n) (l .inv) (omega (arith, less)) (u .last .0) (u .result) added),
     )
 
 add-i : tie.Need-add-i Inv-loop μ-loop
@@ -73,11 +86,14 @@ loop-less c = search needs
 
 loop-again : tie.Need-loop-again Inv-loop μ-loop
 loop-again c =
-    let st = c .before .before .before .before .before .before .before .before .before .before .before .before .before in
-    let w = c .before .before .before .before .before .before .before .before .before .write-identity in
-    let l = c .before .before .before .before .before .before .loop in
-    let u = c .before .before .before .add-at in
-    progress-next (st .args .g) (w .last .0) (st .args .ceiling) (st .args .m) (the-arrays st) (now-ok st (w .last .0) (w .ensures .1 .long)) (l .work) (l .i) (l .n) (l .inv) (omega arith) (u .last .0) (u .result) (u .ensures) (omega arith)
+    let st = c .before .before .before .before .before .before .before .before .before .before .before .before .before .before in
+    let w = c .before .before .before .before .before .before .before .before .before .before .write-identity in
+    let l = c .before .before .before .before .before .before .before .loop in
+    let less = c .before .before .before .before .before .before .loop-test .taken in
+    let r = c .before .before .before .before .before .rule-at in
+    let u = c .before .before .before .add-to in
+    let added = subst (λ (x : Rule). Added (st .args .g) (l .work) (u .last .0) (l .n) (st .args .ceiling) x (u .result)) (r .ensures .0) (u .ensures) in
+    progress-next (st .args .g) (w .last .0) (st .args .ceiling) (st .args .m) (the-arrays st) (now-ok st (w .last .0) (w .ensures .1 .long)) (l .work) (l .i) (l .n) (l .inv) (omega (arith, less)) (u .last .0) (u .result) added (omega arith)
 
 finish-requires : tie.Need-finish-requires Inv-loop μ-loop
 finish-requires c κs =
@@ -85,7 +101,7 @@ finish-requires c κs =
     let w = c .before .before .before .before .before .before .write-identity in
     let l = c .before .before .before .loop in (
       ready (st .args .g) (w .last .0) (st .args .ceiling) (st .args .m) (the-arrays st) (now-ok st (w .last .0) (w .ensures .1 .long)) (l .work) (l .i) (l .n) (l .inv),
-      (omega (arith, st .pre .tags), omega (arith, st .pre .depth, st .pre .few)),
+      (omega (arith, st .pre .readable .tags), omega (arith, st .pre .depth, st .pre .readable .held .few)),
     )
 
 same-length-2 : tie.Need-same-length-2 Inv-loop μ-loop
@@ -101,7 +117,7 @@ returns-2 c =
     let l = c .before .before .before .before .before .before .loop in
     let f = c .before .before .finish in (
       rw (outcome-is (st .args .g) (w .last .0) (st .args .ceiling) (st .args .m) (the-arrays st) (now-ok st (w .last .0) (w .ensures .1 .long)) (l .work) (l .i) (l .n) (l .inv) (omega arith) (length (st .args .out .now))) (f .ensures),
-      all-kept (st .args .g) (st .args .work .now) (w .last .0) (l .work) (omega (arith, st .pre .rows, st .pre .some)) (w .ensures .1) (l .inv .kept),
+      all-kept (st .args .g) (st .args .work .now) (w .last .0) (l .work) (omega (arith, st .pre .rows, st .pre .readable .some)) (w .ensures .1) (l .inv .kept),
     )
 
 pub compile-rules-spec : {M : Type 1} → statement M
@@ -112,7 +128,8 @@ compile-rules-spec =
     μ-loop
     write-identity-requires
     loop-holds
-    add-at-requires
+    rule-at-requires
+    add-to-requires
     add-t19
     same-length
     returns

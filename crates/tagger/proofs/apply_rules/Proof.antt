@@ -3,34 +3,41 @@ use Prim.Native.Nat.{ℕ, _-_, _≤_}
 use native.Mathlib.Omega.{arith}
 use borrow.Author.Needs.{needs}
 use mathlib.Core.Path.{_≡_, refl, _∙_, sym, ap}
-use mathlib.Core.List.{List, reverse}
-use lib.ListN.{length}
-use Rattle.cascades.specs.Rewrite.{behavior}
-use Rattle.books.specs.Kept.{Kept, kept, rulesDown}
-use Rattle.tagger.proofs.Laws.{rule-next}
+use mathlib.Core.List.{List}
+use lib.ListN.{length, getD}
+use Rattle.cascades.specs.Rule.{Rule}
+use Rattle.cascades.specs.Rewrite.{applyAll}
+use Rattle.cascades.specs.Value.{ruleOf}
+use Rattle.books.specs.Arrays.{Arrays, holding, rulesOf}
+use Rattle.tagger.proofs.Laws.{rule-next, rule-inside}
 use Rattle.tagger.proofs.apply_rules.Statement.{statement}
 use Rattle.tagger.proofs.apply_rules.Tie as tie
 use Rattle.tagger.proofs.apply_rules.Reads as reads
 use Rattle.tagger.proofs.apply_rules.Lts as lts
+use Rattle.books.proofs.rule_at.Reads as rule-at-reads
 use Rattle.tagger.proofs.apply_rule.Reads as apply-rule-reads
 
 abbrev Inv-loop : tie.InvT-loop
-Inv-loop s₀ rows lengths places tags m i₀ s i =
-    (i ≤ m) × (length s ≡ length s₀) × (s ≡ behavior (reverse (rulesDown (kept rows lengths places tags) i)) s₀)
+Inv-loop s₀ rows lengths heads m i₀ s i = (i ≤ m) × (length s ≡ length s₀) × (s ≡ applyAll (rulesOf (holding rows lengths heads) i) s₀)
 
 abbrev μ-loop : tie.MeasureT-loop
-μ-loop s₀ rows lengths places tags m i₀ s i = m - i
+μ-loop s₀ rows lengths heads m i₀ s i = m - i
 
-abbrev arrays : tie.Start Inv-loop μ-loop → Kept
-arrays st = kept (st .args .rows .now) (st .args .lengths .now) (st .args .places .now) (st .args .tags .now)
+abbrev arrays : tie.Start Inv-loop μ-loop → Arrays
+arrays st = holding (st .args .rows .now) (st .args .lengths .now) (st .args .heads .now)
 
 loop-holds : tie.Need-loop-holds Inv-loop μ-loop
 loop-holds c = (omega arith, refl, refl)
 
+rule-at-requires : tie.Need-rule-at-requires Inv-loop μ-loop
+rule-at-requires c κs = let st = c .before .before .before in (st .pre .shaped, omega (arith, st .pre .few))
+
 apply-rule-requires : tie.Need-apply-rule-requires Inv-loop μ-loop
 apply-rule-requires c κs =
-    let st = c .before .before .before .before in
-    (st .pre .0, (omega arith, st .pre .1 .1 (c .before .before .loop .i) (omega arith)))
+    let st = c .before .before .before .before .before in
+    let r = c .before .rule-at in
+    let l = c .before .before .before .loop in
+    (r .ensures .1, rule-inside (arrays st) (l .i) (r .result) (r .ensures .0) (r .ensures .1) (st .pre .shaped) (omega (arith, st .pre .few)) (st .pre .inside (l .i) (omega arith)))
 
 add-i : tie.Need-add-i Inv-loop μ-loop
 add-i c = search needs
@@ -40,10 +47,14 @@ loop-less c = search needs
 
 loop-again : tie.Need-loop-again Inv-loop μ-loop
 loop-again c =
-    let st = c .before .before .before .before .before .before .before in
-    let l = c .before .before .before .before .before .loop in
-    let called = c .before .before .apply-rule in
-    (omega arith, called .kept .0 ∙ l .inv .1, called .ensures ∙ rule-next (arrays st) (l .i) (st .args .s .now) (l .s) (l .inv .2))
+    let st = c .before .before .before .before .before .before .before .before in
+    let l = c .before .before .before .before .before .before .loop in
+    let r = c .before .before .before .before .rule-at in
+    let called = c .before .before .apply-rule in (
+      omega arith,
+      called .kept .0 ∙ l .inv .1,
+      called .ensures ∙ rule-next (arrays st) (l .i) (ruleOf (r .result)) (st .args .s .now) (l .s) (r .ensures .0) (l .inv .2),
+    )
 
 same-length : tie.Need-same-length Inv-loop μ-loop
 same-length c = search needs
@@ -53,7 +64,7 @@ returns c =
     let st = c .before .before .before in
     let l = c .before .loop in
     let e : l .i ≡ st .args .m = omega arith in
-    l .inv .2 ∙ ap (λ (n : ℕ). behavior (reverse (rulesDown (arrays st) n)) (st .args .s .now)) e
+    l .inv .2 ∙ ap (λ (n : ℕ). applyAll (rulesOf (arrays st) n) (st .args .s .now)) e
 
 pub apply-rules-spec : {M : Type 1} → statement M
 apply-rules-spec =
@@ -62,6 +73,7 @@ apply-rules-spec =
     Inv-loop
     μ-loop
     loop-holds
+    rule-at-requires
     apply-rule-requires
     add-i
     loop-less

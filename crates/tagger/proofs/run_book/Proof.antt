@@ -9,10 +9,10 @@ use Rattle.answers.specs.Answer.{runOutcome}
 use Rattle.answers.specs.declared.RunAnswer.{RunAnswer}
 use Rattle.sentences.specs.Run.{changed, written, Ran}
 use Rattle.sentences.proofs.Laws.{ran-refused}
-use Rattle.books.specs.Kept.{kept}
-use Rattle.books.proofs.Kept.{fresh-shaped}
+use Rattle.books.specs.Arrays.{holding}
+use Rattle.books.proofs.Arrays.{fresh-shaped}
 use Rattle.tagger.specs.Run.{bookRun}
-use Rattle.tagger.proofs.Laws.{book-refused, book-runs, few-rules, places-inside}
+use Rattle.tagger.proofs.Laws.{book-refused, book-runs, applicable}
 use Rattle.tagger.proofs.run_book.Statement.{statement}
 use Rattle.tagger.proofs.run_book.Tie as tie
 use Rattle.tagger.proofs.run_book.Reads as reads
@@ -34,22 +34,17 @@ enum-known-got-2 c = search needs
 
 run-rules-requires : tie.Need-run-rules-requires
 run-rules-requires c κs =
-    let st = c .before .before .before .before .before .before .before .before .before .before .before .before .before .before .before .before in
-    let r = c .before .before .before .before .before .before .before .before .read-into in
-    let a = kept (r .last .1 .0) (r .last .1 .1 .0) (r .last .1 .1 .1 .0) (r .last .1 .1 .1 .1 .0) in
-    let book = c .before .before .before .before .before .before .got2 .given in (
-      r .ensures .shaped,
-      (
-        few-rules (st .args .book .now) a (r .result) (r .ensures) (book .0 .0) (book .0 .1 .0) (book .1),
-        places-inside (st .args .book .now) a (r .result) (r .ensures) (book .0 .0) (book .0 .1 .0) (book .1),
-      ),
-    )
+    let st = c .before .before .before .before .before .before .before .before .before .before .before .before .before .before in
+    let r = c .before .before .before .before .before .before .before .read-into in
+    let a = holding (r .last .1 .0) (r .last .1 .1 .0) (r .last .1 .1 .1 .0) in
+    let book = c .before .before .before .before .before .got2 .given in
+    applicable (st .args .book .now) a (r .result) (r .ensures) (book .0 .0) (book .0 .1 .0) (book .1)
 
 returns : tie.Need-returns
 returns c =
-    let st = c .before .before .before .before .before .before .before .before .before .before .before in
+    let st = c .before .before .before .before .before .before .before .before .before .before in
     let r = c .before .before .before .read-into in
-    let a = kept (r .last .1 .0) (r .last .1 .1 .0) (r .last .1 .1 .1 .0) (r .last .1 .1 .1 .1 .0) in
+    let a = holding (r .last .1 .0) (r .last .1 .1 .0) (r .last .1 .1 .1 .0) in
     both
     (ran-refused (bookRun (st .args .book .now) (st .args .sentence .now) (length (st .args .out .now))) (st .args .sentence .now) (st .args .out .now) (c .before .got .given .0 .0)
     (book-refused (st .args .book .now) a (r .result) (r .ensures) (st .args .sentence .now) (length (st .args .out .now)) _ (c .before .got .given .1)))
@@ -59,10 +54,10 @@ same-length c = search needs
 
 returns-2 : tie.Need-returns-2
 returns-2 c =
-    let st = c .before .before .before .before .before .before .before .before .before .before .before .before .before .before .before .before .before .before .before in
-    let r = c .before .before .before .before .before .before .before .before .before .before .before .read-into in
-    let a = kept (r .last .1 .0) (r .last .1 .1 .0) (r .last .1 .1 .1 .0) (r .last .1 .1 .1 .1 .0) in
-    let book = c .before .before .before .before .before .before .before .before .before .got2 .given in
+    let st = c .before .before .before .before .before .before .before .before .before .before .before .before .before .before .before .before .before in
+    let r = c .before .before .before .before .before .before .before .before .before .before .read-into in
+    let a = holding (r .last .1 .0) (r .last .1 .1 .0) (r .last .1 .1 .1 .0) in
+    let book = c .before .before .before .before .before .before .before .before .got2 .given in
     let u = c .before .before .run-rules in
     both
     (subst (λ (o : Outcome (List ℕ)). Ran o (st .args .sentence .now) (st .args .out .now) (u .last .1 .0) (u .result))

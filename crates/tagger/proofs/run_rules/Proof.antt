@@ -2,13 +2,13 @@
 use borrow.Author.Needs.{needs}
 use mathlib.Core.Path.{sym}
 use Prim.Native.Nat.{ℕ}
-use mathlib.Core.List.{List, reverse}
+use mathlib.Core.List.{List}
 use lib.ListN.{length}
 use Rattle.answers.specs.Outcome.{Outcome}
 use Rattle.sentences.specs.Run.{run}
 use Rattle.sentences.proofs.Laws.{run-accepts, ran-refused, ran-changed}
 use Rattle.cascades.specs.Rewrite.{behavior}
-use Rattle.books.specs.Kept.{kept, rulesDown}
+use Rattle.books.specs.Arrays.{holding, cascadeOf}
 use Rattle.tagger.proofs.Laws.{run-refused, run-admitted}
 use Rattle.tagger.proofs.run_rules.Statement.{statement}
 use Rattle.tagger.proofs.run_rules.Tie as tie
@@ -19,9 +19,7 @@ use Rattle.tagger.proofs.write_rules.Reads as write-rules-reads
 
 -- what the rules make of the sentence, and the outcome of the run
 abbrev made : tie.Start → List ℕ
-made st =
-    behavior (reverse (rulesDown (kept (st .args .rows .now) (st .args .lengths .now) (st .args .places .now) (st .args .tags .now)) (st .args .m)))
-    (st .args .sentence .now)
+made st = behavior (cascadeOf (st .args .k) (holding (st .args .rows .now) (st .args .lengths .now) (st .args .heads .now)) (st .args .m)) (st .args .sentence .now)
 
 abbrev outcome : tie.Start → Outcome (List ℕ)
 outcome st = run (st .args .k) (st .args .sentence .now) (length (st .args .out .now)) (made st)
@@ -46,13 +44,9 @@ write-rules-requires : tie.Need-write-rules-requires
 write-rules-requires c κs =
     let st = c .before .before .before .before .before .before in
     let a = c .before .before .before .admit in (
-      st .pre .0,
-      (
-        st .pre .1 .0,
-        st .pre .1 .1,
-        run-accepts (st .args .k) (st .args .sentence .now) (length (st .args .out .now)) (made st) (made st)
-            (sym (run-admitted (a .result) (outcome st) (made st) (a .ensures (made st)) (c .before .enum-told .given .1))) .0 .fits,
-      ),
+      st .pre,
+      run-accepts (st .args .k) (st .args .sentence .now) (length (st .args .out .now)) (made st) (made st)
+          (sym (run-admitted (a .result) (outcome st) (made st) (a .ensures (made st)) (c .before .enum-told .given .1))) .0 .fits,
     )
 
 same-length : tie.Need-same-length

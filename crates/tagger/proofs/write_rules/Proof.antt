@@ -1,7 +1,6 @@
 -- `tagger::write_rules` meets its contract.
 use borrow.Author.Needs.{needs}
-use mathlib.Core.List.{reverse}
-use Rattle.books.specs.Kept.{kept, rulesDown}
+use Rattle.books.specs.Arrays.{holding, rulesOf}
 use Rattle.tagger.proofs.Laws.{front-long, made-long, writes}
 use Rattle.tagger.proofs.write_rules.Statement.{statement}
 use Rattle.tagger.proofs.write_rules.Tie as tie
@@ -52,7 +51,7 @@ returns c =
     let o = c .before .before .before .before .before .before .before .before .copy in
     let x = c .before .before .before .before .apply-rules in
     let n = c .count-changes in
-    let rules = reverse (rulesDown (kept (a .rows .now) (a .lengths .now) (a .places .now) (a .tags .now)) (a .m)) in
+    let rules = rulesOf (holding (a .rows .now) (a .lengths .now) (a .heads .now)) (a .m) in
     writes (a .sentence .now) (a .out .now) (o .last .1 .0) (x .last .0) (o .ensures) (x .kept .0) rules (n .result) (x .ensures) (n .ensures)
 
 pub write-rules-spec : {M : Type 1} → statement M

@@ -12,85 +12,82 @@ use lib.ListN.{length, getD, set, take, replicate, length-set, getD-replicate}
 use lib.Seq.{length-take-le, getD-take, getD-set-same, getD-set-other, take-suc-set, set-out}
 use Rattle.limits.specs.Limits.{most-rules, longest-pattern}
 use Rattle.cascades.specs.Rule.{Rule}
-use Rattle.books.specs.Read.{fault, closing, opened, longer}
-use Rattle.books.specs.Kept.{Kept, kept, Shaped, ruleAt, rulesDown}
+use Rattle.books.specs.Read.{closing, opened, longer}
+use Rattle.books.specs.Arrays.{Arrays, holding, Shaped, placeAt, tagAt, ruleAt, rulesDown}
+use Rattle.books.specs.Resume.{faulted}
 
-pub down-last : (a : Kept) (m : ℕ) → (m ≡ 0 → ⊥) → rulesDown a m ≡ ruleAt a (m - 1) ∷ rulesDown a (m - 1)
+pub down-last : (a : Arrays) (m : ℕ) → (m ≡ 0 → ⊥) → rulesDown a m ≡ ruleAt a (m - 1) ∷ rulesDown a (m - 1)
 down-last a zero n = absurd (n refl)
 down-last a (suc m) n = let e : suc m - 1 ≡ m = omega arith in rw e
 
 -- ---- closing the last of m rules
 
-pub pattern-long : (a : Kept) (h : Shaped a) (i : ℕ) → i < most-rules → length (ruleAt a i .pattern) ≡ getD (a .lengths) i 0
+pub pattern-long : (a : Arrays) (h : Shaped a) (i : ℕ) → i < most-rules → length (ruleAt a i .pattern) ≡ getD (a .lengths) i 0
 pattern-long a h i few =
     length-take-le (getD (a .lengths) i 0) (getD (a .rows) i []) (omega (arith, h .length-short i, h .row-long i few))
 
-module _ (a : Kept) (h : Shaped a) (m : ℕ) (few : m ≤ most-rules) (some : m ≡ 0 → ⊥) where
+module _ (a : Arrays) (h : Shaped a) (m : ℕ) (few : m ≤ most-rules) (some : m ≡ 0 → ⊥) where
   last-long : length (ruleAt a (m - 1) .pattern) ≡ getD (a .lengths) (m - 1) 0
   last-long = pattern-long a h (m - 1) (omega arith)
 
-  pub closing-empty : getD (a .lengths) (m - 1) 0 ≡ 0 → 3 ≡ closing (rulesDown a m)
-  closing-empty e = cc (down-last a m some, eq-eqb (length (ruleAt a (m - 1) .pattern)) 0 (last-long ∙ e))
+  pub closing-empty : getD (a .lengths) (m - 1) 0 ≡ 0 → closing (rulesDown a m) ≡ faulted 3
+  closing-empty e = cc (down-last a m some, le-ltb 0 (length (ruleAt a (m - 1) .pattern)) (omega (arith, last-long)))
 
   module _ (long : getD (a .lengths) (m - 1) 0 ≡ 0 → ⊥) where
-    tagged : eqb (length (ruleAt a (m - 1) .pattern)) 0 ≡ false
-    tagged = ne-eqb (length (ruleAt a (m - 1) .pattern)) 0 (λ e. long (sym last-long ∙ e))
+    tagged : ltb 0 (length (ruleAt a (m - 1) .pattern)) ≡ true
+    tagged = lt-ltb 0 (length (ruleAt a (m - 1) .pattern)) (omega (arith, last-long, long))
 
-    pub closing-outside : getD (a .lengths) (m - 1) 0 ≤ getD (a .places) (m - 1) 0 → 5 ≡ closing (rulesDown a m)
+    pub closing-outside : getD (a .lengths) (m - 1) 0 ≤ placeAt a (m - 1) → closing (rulesDown a m) ≡ faulted 5
     closing-outside p =
         cc (
           down-last a m some,
           tagged,
-          le-ltb (getD (a .places) (m - 1) 0) (length (ruleAt a (m - 1) .pattern)) (omega (arith, last-long)),
+          le-ltb (placeAt a (m - 1)) (length (ruleAt a (m - 1) .pattern)) (omega (arith, last-long)),
         )
 
-    module _ (inside : getD (a .places) (m - 1) 0 < getD (a .lengths) (m - 1) 0) where
-      within : ltb (getD (a .places) (m - 1) 0) (length (ruleAt a (m - 1) .pattern)) ≡ true
-      within = lt-ltb (getD (a .places) (m - 1) 0) (length (ruleAt a (m - 1) .pattern)) (omega (arith, last-long))
+    module _ (inside : placeAt a (m - 1) < getD (a .lengths) (m - 1) 0) where
+      within : ltb (placeAt a (m - 1)) (length (ruleAt a (m - 1) .pattern)) ≡ true
+      within = lt-ltb (placeAt a (m - 1)) (length (ruleAt a (m - 1) .pattern)) (omega (arith, last-long))
 
-      there : getD (ruleAt a (m - 1) .pattern) (getD (a .places) (m - 1) 0) 0 ≡ getD (getD (a .rows) (m - 1) []) (getD (a .places) (m - 1) 0) 0
-      there = getD-take (getD (a .lengths) (m - 1) 0) (getD (a .rows) (m - 1) []) (getD (a .places) (m - 1) 0) 0 inside
+      there : getD (ruleAt a (m - 1) .pattern) (placeAt a (m - 1)) 0 ≡ getD (getD (a .rows) (m - 1) []) (placeAt a (m - 1)) 0
+      there = getD-take (getD (a .lengths) (m - 1) 0) (getD (a .rows) (m - 1) []) (placeAt a (m - 1)) 0 inside
 
-      pub closing-same : getD (getD (a .rows) (m - 1) []) (getD (a .places) (m - 1) 0) 0 ≡ getD (a .tags) (m - 1) 0 → 6 ≡ closing (rulesDown a m)
+      pub closing-same : getD (getD (a .rows) (m - 1) []) (placeAt a (m - 1)) 0 ≡ tagAt a (m - 1) → closing (rulesDown a m) ≡ faulted 6
       closing-same e =
           cc (
             down-last a m some,
             tagged,
             within,
-            eq-eqb (getD (ruleAt a (m - 1) .pattern) (getD (a .places) (m - 1) 0) 0) (getD (a .tags) (m - 1) 0) (there ∙ e),
+            eq-eqb (getD (ruleAt a (m - 1) .pattern) (placeAt a (m - 1)) 0) (tagAt a (m - 1)) (there ∙ e),
           )
 
-      pub closing-none : (getD (getD (a .rows) (m - 1) []) (getD (a .places) (m - 1) 0) 0 ≡ getD (a .tags) (m - 1) 0 → ⊥) → 0 ≡ closing (rulesDown a m)
+      pub closing-none : (getD (getD (a .rows) (m - 1) []) (placeAt a (m - 1)) 0 ≡ tagAt a (m - 1) → ⊥) → closing (rulesDown a m) ≡ faulted 0
       closing-none d =
           cc (
             down-last a m some,
             tagged,
             within,
-            ne-eqb (getD (ruleAt a (m - 1) .pattern) (getD (a .places) (m - 1) 0) 0) (getD (a .tags) (m - 1) 0) (λ e. d (sym there ∙ e)),
+            ne-eqb (getD (ruleAt a (m - 1) .pattern) (placeAt a (m - 1)) 0) (tagAt a (m - 1)) (λ e. d (sym there ∙ e)),
           )
 
 -- ---- one more tag of the last pattern, one more rule
 
-pub down-length : (a : Kept) (m : ℕ) → length (rulesDown a m) ≡ m
+pub down-length : (a : Arrays) (m : ℕ) → length (rulesDown a m) ≡ m
 down-length a zero = refl
 down-length a (suc m) = ap suc (down-length a m)
 
-down-same : (a a' : Kept) (m : ℕ) → ((i : ℕ) → i < m → ruleAt a' i ≡ ruleAt a i) → rulesDown a' m ≡ rulesDown a m
+down-same : (a a' : Arrays) (m : ℕ) → ((i : ℕ) → i < m → ruleAt a' i ≡ ruleAt a i) → rulesDown a' m ≡ rulesDown a m
 down-same a a' zero h = refl
 down-same a a' (suc m) h = cc (h m (omega arith), down-same a a' m (λ i l. h i (omega arith)))
 
 -- the arrays after the tag t has been put after the pattern of the rule i
-abbrev pub tagged-kept : Kept → ℕ → ℕ → Kept
-tagged-kept a i t =
-    kept
-    (set (a .rows) i (set (getD (a .rows) i []) (getD (a .lengths) i 0) t))
-    (set (a .lengths) i (getD (a .lengths) i 0 + 1))
-    (a .places)
-    (a .tags)
+abbrev pub tagged-arrays : Arrays → ℕ → ℕ → Arrays
+tagged-arrays a i t =
+    holding (set (a .rows) i (set (getD (a .rows) i []) (getD (a .lengths) i 0) t)) (set (a .lengths) i (getD (a .lengths) i 0 + 1)) (a .heads)
 
 -- the arrays after a rule with no pattern yet has been put at m
-abbrev pub opened-kept : Kept → ℕ → ℕ → ℕ → Kept
-opened-kept a m p t = kept (a .rows) (set (a .lengths) m 0) (set (a .places) m p) (set (a .tags) m t)
+abbrev pub opened-arrays : Arrays → ℕ → ℕ → ℕ → Arrays
+opened-arrays a m p t = holding (a .rows) (set (a .lengths) m 0) (set (a .heads) m (p ∷ t ∷ []))
 
 set-short : (l : List ℕ) (i v n : ℕ) → v ≤ n → ((j : ℕ) → getD l j 0 ≤ n) → (j : ℕ) → getD (set l i v) j 0 ≤ n
 set-short l i v n hv h j = at (ℕ-discrete j i) (decLt i (length l))
@@ -108,8 +105,8 @@ set-long-rows l i n v k hi hv h j hj = at (ℕ-discrete j i)
     at (yes e) = rw (e, getD-set-same l i v [] hi) hv
     at (no d) = rw (getD-set-other l i j v [] d) (h j hj)
 
-module _ (a : Kept) (h : Shaped a) (i : ℕ) (few : i < most-rules) (t : ℕ) (room : getD (a .lengths) i 0 < longest-pattern) where
-  pub tagged-shaped : Shaped (tagged-kept a i t)
+module _ (a : Arrays) (h : Shaped a) (i : ℕ) (few : i < most-rules) (t : ℕ) (room : getD (a .lengths) i 0 < longest-pattern) where
+  pub tagged-shaped : Shaped (tagged-arrays a i t)
   tagged-shaped =
       let row = getD (a .rows) i [] in
       let n = getD (a .lengths) i 0 in
@@ -120,11 +117,11 @@ module _ (a : Kept) (h : Shaped a) (i : ℕ) (few : i < most-rules) (t : ℕ) (r
             (omega (arith, h .rows-long)) (length-set row n t ∙ h .row-long i few) (h .row-long);
         lengths-long = length-set (a .lengths) i (n + 1) ∙ h .lengths-long;
         length-short = set-short (a .lengths) i (n + 1) longest-pattern (omega arith) (h .length-short);
-        places-long = h .places-long;
-        tags-long = h .tags-long;
+        heads-long = h .heads-long;
+        head-long = h .head-long;
       }
 
-  tagged-rule : ruleAt (tagged-kept a i t) i ≡ longer (ruleAt a i) t
+  tagged-rule : ruleAt (tagged-arrays a i t) i ≡ longer (ruleAt a i) t
   tagged-rule =
       let row = getD (a .rows) i [] in
       let n = getD (a .lengths) i 0 in
@@ -133,52 +130,47 @@ module _ (a : Kept) (h : Shaped a) (i : ℕ) (few : i < most-rules) (t : ℕ) (r
       let g : take (suc n) (set row n t) ≡ take n row ++ (t ∷ []) = take-suc-set row n t (omega (arith, h .row-long i few)) in
       cc (e, f, g, add-one n)
 
-  pub tagged-down : rulesDown (tagged-kept a i t) (suc i) ≡ longer (ruleAt a i) t ∷ rulesDown a i
+  pub tagged-down : rulesDown (tagged-arrays a i t) (suc i) ≡ longer (ruleAt a i) t ∷ rulesDown a i
   tagged-down =
       let row = getD (a .rows) i [] in
       let n = getD (a .lengths) i 0 in
       cc (
         tagged-rule,
-        down-same a (tagged-kept a i t) i
+        down-same a (tagged-arrays a i t) i
             (λ j l. cc (
               getD-set-other (a .lengths) i j (n + 1) 0 (λ e. omega arith),
               getD-set-other (a .rows) i j (set row n t) [] (λ e. omega arith),
             )),
       )
 
-module _ (a : Kept) (h : Shaped a) (m : ℕ) (few : m < most-rules) (p t : ℕ) where
-  pub opened-shaped : Shaped (opened-kept a m p t)
+module _ (a : Arrays) (h : Shaped a) (m : ℕ) (few : m < most-rules) (p t : ℕ) where
+  pub opened-shaped : Shaped (opened-arrays a m p t)
   opened-shaped =
       record {
         rows-long = h .rows-long;
         row-long = h .row-long;
         lengths-long = length-set (a .lengths) m 0 ∙ h .lengths-long;
         length-short = set-short (a .lengths) m 0 longest-pattern (omega arith) (h .length-short);
-        places-long = length-set (a .places) m p ∙ h .places-long;
-        tags-long = length-set (a .tags) m t ∙ h .tags-long;
+        heads-long = length-set (a .heads) m (p ∷ t ∷ []) ∙ h .heads-long;
+        head-long = set-long-rows (a .heads) m most-rules (p ∷ t ∷ []) 2 (omega (arith, h .heads-long)) refl (h .head-long);
       }
 
-  pub opened-down : rulesDown (opened-kept a m p t) (suc m) ≡ opened p t ∷ rulesDown a m
+  pub opened-down : rulesDown (opened-arrays a m p t) (suc m) ≡ opened p t ∷ rulesDown a m
   opened-down =
-      let e = getD-set-same (a .lengths) m 0 0 (omega (arith, h .lengths-long)) in
-      let f = getD-set-same (a .places) m p 0 (omega (arith, h .places-long)) in
-      let g = getD-set-same (a .tags) m t 0 (omega (arith, h .tags-long)) in
       cc (
-        e,
-        f,
-        g,
-        down-same a (opened-kept a m p t) m
+        getD-set-same (a .lengths) m 0 0 (omega (arith, h .lengths-long)),
+        getD-set-same (a .heads) m (p ∷ t ∷ []) [] (omega (arith, h .heads-long)),
+        down-same a (opened-arrays a m p t) m
             (λ j l. cc (
               getD-set-other (a .lengths) m j 0 0 (λ e. omega arith),
-              getD-set-other (a .places) m j p 0 (λ e. omega arith),
-              getD-set-other (a .tags) m j t 0 (λ e. omega arith),
+              getD-set-other (a .heads) m j (p ∷ t ∷ []) [] (λ e. omega arith),
             )),
       )
 
 -- ---- arrays of zeros
 
-abbrev pub fresh : Kept
-fresh = kept (replicate most-rules (replicate longest-pattern 0)) (replicate most-rules 0) (replicate most-rules 0) (replicate most-rules 0)
+abbrev pub fresh : Arrays
+fresh = holding (replicate most-rules (replicate longest-pattern 0)) (replicate most-rules 0) (replicate most-rules (replicate 2 0))
 
 zeros : (n i : ℕ) → _≡_ {A = ℕ} (getD (replicate n 0) i 0) 0
 zeros zero i = refl
@@ -192,6 +184,6 @@ fresh-shaped =
       row-long = λ i h. ap length (getD-replicate most-rules i (replicate longest-pattern 0) [] h);
       lengths-long = refl;
       length-short = λ i. omega (arith, zeros most-rules i);
-      places-long = refl;
-      tags-long = refl;
+      heads-long = refl;
+      head-long = λ i h. ap length (getD-replicate most-rules i (replicate 2 0) [] h);
     }

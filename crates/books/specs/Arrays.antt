@@ -1,0 +1,57 @@
+-- "Reading keeps the patterns as an array of sixteen rows of six tags, with each length beside": the rules that the reader's arrays hold.
+-- What else a rule has stands in a third array, its head: the place, then the new tag.
+use Prim.Native.Nat.{ℕ, zero, suc, _≤_, _<_}
+use mathlib.Core.Path.{_≡_}
+use mathlib.Core.List.{List, [], _∷_, reverse}
+use lib.ListN.{length, getD, take}
+use denote.Ref.{RefT}
+use Rattle.limits.specs.Limits.{most-rules, longest-pattern}
+use Rattle.cascades.specs.Rule.{Rule, ValidRule, Cascade}
+
+pub record Arrays : Type 0 where
+  pub rows : List (List ℕ)
+  pub lengths : List ℕ
+  pub heads : List (List ℕ)
+
+abbrev pub holding : List (List ℕ) → List ℕ → List (List ℕ) → Arrays
+holding rows lengths heads = record { rows = rows; lengths = lengths; heads = heads }
+
+-- what lent arrays hold
+abbrev pub arrays : RefT (List (List ℕ)) → RefT (List ℕ) → RefT (List (List ℕ)) → Arrays
+arrays rows lengths heads = holding (rows .now) (lengths .now) (heads .now)
+
+-- the arrays' lengths, and that no pattern is longer than its row
+pub record Shaped (a : Arrays) : Type 0 where
+  pub rows-long : length (a .rows) ≡ most-rules
+  pub row-long : (i : ℕ) → i < most-rules → length (getD (a .rows) i []) ≡ longest-pattern
+  pub lengths-long : length (a .lengths) ≡ most-rules
+  pub length-short : (i : ℕ) → getD (a .lengths) i 0 ≤ longest-pattern
+  pub heads-long : length (a .heads) ≡ most-rules
+  pub head-long : (i : ℕ) → i < most-rules → length (getD (a .heads) i []) ≡ 2
+
+abbrev pub placeAt : Arrays → ℕ → ℕ
+placeAt a i = getD (getD (a .heads) i []) 0 0
+
+abbrev pub tagAt : Arrays → ℕ → ℕ
+tagAt a i = getD (getD (a .heads) i []) 1 0
+
+abbrev pub ruleAt : Arrays → ℕ → Rule
+ruleAt a i = record { pattern = take (getD (a .lengths) i 0) (getD (a .rows) i []); place = placeAt a i; tag = tagAt a i }
+
+-- the first n rules, last first
+abbrev pub rulesDown : Arrays → ℕ → List Rule
+rulesDown a zero = []
+rulesDown a (suc n) = ruleAt a n ∷ rulesDown a n
+
+-- the first n rules in the book's order, and the cascade over k tags that they are
+abbrev pub rulesOf : Arrays → ℕ → List Rule
+rulesOf a n = reverse (rulesDown a n)
+
+abbrev pub cascadeOf : ℕ → Arrays → ℕ → Cascade
+cascadeOf k a n = record { tags = k; rules = rulesOf a n }
+
+-- the arrays hold m rules that are valid over k tags
+pub record RulesHeld (k m : ℕ) (a : Arrays) : Type 0 where
+  pub shaped : Shaped a
+  pub few : m ≤ most-rules
+  pub valid : (i : ℕ) → i < m → ValidRule longest-pattern k (ruleAt a i)

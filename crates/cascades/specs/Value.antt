@@ -1,0 +1,16 @@
+-- A rule as one value of the code.
+use Prim.Native.Nat.{ℕ, _≤_}
+use mathlib.Core.Path.{_≡_}
+use lib.ListN.{length, take}
+use Rattle.limits.specs.Limits.{longest-pattern}
+use Rattle.cascades.specs.Rule.{Rule}
+use Rattle.cascades.specs.declared.Rule.{Rule as Value}
+
+-- the rule that it is
+abbrev pub ruleOf : Value → Rule
+ruleOf v = record { pattern = take (v .length) (v .row); place = v .place; tag = v .tag }
+
+-- the pattern is in the row
+pub record Formed (v : Value) : Type 0 where
+  pub row-long : length (v .row) ≡ longest-pattern
+  pub length-short : v .length ≤ longest-pattern
