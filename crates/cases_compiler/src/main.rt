@@ -59,7 +59,7 @@ fn same_runs(book: &[u8], table: &[u8], sentence: &[u8]) -> bool {
     let mut by_book = [7u8; 64];
     let mut by_table = [7u8; 64];
     let a = changes(tagger::run_book(book, sentence, &mut by_book));
-    let b = changes(tables::run_table(table, sentence, &mut by_table));
+    let b = changes(transduction::run_table(table, sentence, &mut by_table));
     if 64 < a || a != b {
         return false;
     }

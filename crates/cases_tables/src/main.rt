@@ -3,8 +3,8 @@ mod build;
 
 use answers::Refusal;
 use answers::RunAnswer;
+use decoder::TableAnswer;
 use libc::STDOUT_FILENO;
-use tables::TableAnswer;
 ghost use mathlib.Core.Path.{_≡_};
 ghost use Prim.Native.Nat.{_≤_, _<_};
 ghost use lib.ListN.{length};
@@ -120,7 +120,7 @@ fn print_tags(tags: &[u8]) {
 
 // What reading a table answers.
 fn print_read(table: &[u8]) {
-    match tables::read_table(table) {
+    match transduction::read_table(table) {
         TableAnswer::Table { tags, states } => {
             print(b": K ");
             print_number(tags);
@@ -144,7 +144,7 @@ fn read(name: &[u8], table: &[u8]) {
 // What a run answers, and the whole output slice then.
 fn run(name: &[u8], table: &[u8], sentence: &[u8], out: &mut [u8]) {
     print(name);
-    match tables::run_table(table, sentence, out) {
+    match transduction::run_table(table, sentence, out) {
         RunAnswer::Changed(n) => {
             print(b": ");
             print_number(n);

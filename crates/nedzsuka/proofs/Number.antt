@@ -22,7 +22,7 @@ use Rattle.minimal.specs.TableOf.{tableOf}
 use Rattle.tables.specs.Bytes.{encode}
 use Rattle.tables.specs.Decode.{Decoded, decode}
 use Rattle.tables.specs.Run.{tableRun}
-use Rattle.tables.proofs.Heads.{Read, gave, refuses, read-decode, valid-length}
+use Rattle.tables.proofs.Outcomes.{Read, gave, refuses, read-decode, valid-length}
 use Rattle.compilation.specs.Compile.{fitting, built, compileAnswer}
 use Rattle.compilation.proofs.Answer.{Told, fits, exceeds, told, table-valid, Tested, names-nothing, names-byte, goes-on, test}
 use Rattle.compilation.proofs.Parts.{whole-few}

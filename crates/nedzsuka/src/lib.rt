@@ -78,12 +78,12 @@ pub extern "C" fn nedzsuka_run_book(book: &[u8], sentence: &[u8], out: &mut [u8]
     pack_run(answer)
 }
 
-// tables::run_table: the number of changed tags, or the refusal.
+// transduction::run_table: the number of changed tags, or the refusal.
 #[no_mangle]
 pub extern "C" fn nedzsuka_run_table(table: &[u8], sentence: &[u8], out: &mut [u8]) -> u64
     ensures answer { λ r. ⌜ r ≡ packed (changed (now (sentence .entry)) (tableRun (now (table .entry)) (now (sentence .entry)) (length (now (out .entry))))) ⌝ }
     ensures out { λ r. ⌜ now (out .exit) ≡ written (tableRun (now (table .entry)) (now (sentence .entry)) (length (now (out .entry)))) (now (out .entry)) ⌝ }
 {
-    let answer = tables::run_table(table, sentence, out);
+    let answer = transduction::run_table(table, sentence, out);
     pack_run(answer)
 }

@@ -1,13 +1,13 @@
 -- Words in bytes: the command with a tag, for each tag.
-use Prim.Native.Nat.{ℕ, zero, suc, _+_, _*_, _<_, _≤_}
+use Prim.Native.Nat.{ℕ, suc, _+_, _*_, _<_, _≤_}
 use native.Mathlib.Decide.{ℕ-discrete, decLt}
 use native.Mathlib.Omega.{arith}
 use mathlib.Core.Path.{_≡_, refl, ap, _∙_}
 use mathlib.Core.Bool.{Bool, true, false}
 use mathlib.Core.List.{List, [], _∷_, _++_, append-assoc}
-use borrow.Author.Tests.{eq-eqb, ne-eqb, le-leb, lt-leb, lt-ltb, le-ltb}
+use borrow.Author.Tests.{eq-eqb, ne-eqb, lt-ltb, le-ltb}
 use lib.Dec.{eqb}
-use lib.ListN.{length, drop, length-append}
+use lib.ListN.{length, drop, getD}
 use lib.Seq.{drop-append-seam}
 use Rattle.words.specs.Word.{Below}
 use Rattle.tables.specs.Bytes.{tagged, high, low, number}
@@ -30,10 +30,9 @@ begins-append p q bs e f =
     let rest = begins-of (p ++ q) bs (drop (length q) (drop (length p) bs)) whole in
     rw rest whole
 
-pub below-drop : (k n : ℕ) (bs : List ℕ) → Below k bs → Below k (drop n bs)
-below-drop k zero bs b = b
-below-drop k (suc n) [] b = b
-below-drop k (suc n) (x ∷ bs) b = below-drop k n bs (b .1)
+pub below-of : (k : ℕ) (l : List ℕ) → ((i : ℕ) → getD l i 0 < k) → Below k l
+below-of k [] f = tt
+below-of k (x ∷ l) f = (f 0, below-of k l (λ i. f (suc i)))
 
 -- the cases of `word`
 module _ (c k x a : ℕ) (bs : List ℕ) where

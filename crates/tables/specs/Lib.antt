@@ -3,4 +3,3 @@ pub mod Valid
 pub mod Bytes
 pub mod Decode
 pub mod Run
-pub mod Index

@@ -1,25 +1,17 @@
--- What the public calls answer.
+-- What reading a table and running it give.
 use Prim.Native.Nat.{ℕ}
 use mathlib.Core.List.{List}
 use lib.ListN.{length}
-use Rattle.answers.specs.Outcome.{Outcome, result, refused, andThen}
-use Rattle.answers.specs.Answer.{refusal}
+use Rattle.answers.specs.Outcome.{Outcome, result, andThen}
 use Rattle.sentences.specs.Run.{run}
 use Rattle.transducers.specs.Transducer.{puts}
 use Rattle.transducers.specs.Table.{shape}
-use Rattle.tables.specs.Decode.{Decoded, decode}
-use Rattle.tables.specs.declared.TableAnswer.{TableAnswer}
-use Rattle.tables.specs.declared.TableAnswer.the-variants.{Table, Refused}
+use Rattle.tables.specs.Decode.{decode}
 
 -- the K and the S of a table
 pub record Size : Type 0 where
   pub tags : ℕ
   pub states : ℕ
-
--- document 01's values for each case of `TableAnswer`
-abbrev pub tableOutcome : TableAnswer → Outcome Size
-tableOutcome (Table k s) = result (record { tags = k; states = s })
-tableOutcome (Refused r) = refusal r
 
 abbrev pub sizeOf : List ℕ → Outcome Size
 sizeOf bytes = andThen (decode bytes) (λ d. result (record { tags = d .tags; states = length (d .table) }))

@@ -13,8 +13,7 @@ ghost use Rattle.words.specs.Word.{prefix};
 ghost use Rattle.cascades.specs.Rewrite.{rewrite, apply, applyAll, behavior};
 ghost use Rattle.cascades.specs.Value.{ruleOf, Formed};
 ghost use Rattle.books.specs.Arrays.{arrays, rulesOf, cascadeOf};
-ghost use Rattle.answers.specs.Answer.{runOutcome};
-ghost use Rattle.sentences.specs.Run.{run, changed, written, Ran};
+ghost use Rattle.sentences.specs.Run.{run, Ran};
 ghost use Rattle.sentences.specs.Parts.{Wrote};
 ghost use Rattle.tagger.specs.Run.{bookRun};
 ghost use Rattle.tagger.specs.Rules.{Applicable};
@@ -129,8 +128,7 @@ fn run_rules(
 
 // Runs a book over a sentence: the number of changed tags, with the result in the first bytes of `out`; or the refusal.
 pub fn run_book(book: &[u8], sentence: &[u8], out: &mut [u8]) -> RunAnswer
-    ensures answer { λ r. ⌜ runOutcome r ≡ changed (now (sentence .entry)) (bookRun (now (book .entry)) (now (sentence .entry)) (length (now (out .entry)))) ⌝ }
-    ensures out { λ r. ⌜ now (out .exit) ≡ written (bookRun (now (book .entry)) (now (sentence .entry)) (length (now (out .entry)))) (now (out .entry)) ⌝ }
+    ensures { λ r. ⌜ Ran (bookRun (now (book .entry)) (now (sentence .entry)) (length (now (out .entry)))) (now (sentence .entry)) (now (out .entry)) (now (out .exit)) r ⌝ }
 {
     let mut rows = [[0u8; PATTERN]; RULES];
     let mut lengths = [0usize; RULES];

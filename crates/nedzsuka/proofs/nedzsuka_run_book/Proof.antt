@@ -17,12 +17,12 @@ run-book-requires c κs = search needs
 returns : tie.Need-returns
 returns c =
     let e = c .before .before .before .run-book .ensures in
-    (c .pack-run .ensures ∙ ap packed (e .0), e .1)
+    (c .pack-run .ensures ∙ ap packed (e .answered), e .wrote)
 
 pack-run-requires : tie.Need-pack-run-requires
 pack-run-requires c κs =
     let a = c .before .before .before .before .before .before .before .args in
-    subst Legible (sym (c .before .before .run-book .ensures .0)) (legible-book (a .book .now) (a .sentence .now) (length (a .out .now)))
+    subst Legible (sym (c .before .before .run-book .ensures .answered)) (legible-book (a .book .now) (a .sentence .now) (length (a .out .now)))
 
 same-length : tie.Need-same-length
 same-length c = search needs

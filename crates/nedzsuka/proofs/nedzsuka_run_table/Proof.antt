@@ -9,7 +9,7 @@ use Rattle.nedzsuka.proofs.nedzsuka_run_table.Tie as tie
 use Rattle.nedzsuka.proofs.nedzsuka_run_table.Reads as reads
 use Rattle.nedzsuka.proofs.nedzsuka_run_table.Lts as lts
 use Rattle.nedzsuka.proofs.pack_run.Reads as pack-run-reads
-use Rattle.tables.proofs.run_table.Reads as run-table-reads
+use Rattle.transduction.proofs.run_table.Reads as run-table-reads
 
 run-table-requires : tie.Need-run-table-requires
 run-table-requires c κs = search needs
@@ -17,12 +17,12 @@ run-table-requires c κs = search needs
 returns : tie.Need-returns
 returns c =
     let e = c .before .before .before .run-table .ensures in
-    (c .pack-run .ensures ∙ ap packed (e .0), e .1)
+    (c .pack-run .ensures ∙ ap packed (e .answered), e .wrote)
 
 pack-run-requires : tie.Need-pack-run-requires
 pack-run-requires c κs =
     let a = c .before .before .before .before .before .before .before .args in
-    subst Legible (sym (c .before .before .run-table .ensures .0)) (legible-table (a .table .now) (a .sentence .now) (length (a .out .now)))
+    subst Legible (sym (c .before .before .run-table .ensures .answered)) (legible-table (a .table .now) (a .sentence .now) (length (a .out .now)))
 
 same-length : tie.Need-same-length
 same-length c = search needs

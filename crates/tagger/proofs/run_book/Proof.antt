@@ -1,13 +1,11 @@
 -- `tagger::run_book` meets its contract.
 use borrow.Author.Needs.{needs}
 use Prim.Native.Nat.{ℕ}
-use mathlib.Core.Path.{_≡_, subst}
+use mathlib.Core.Path.{subst}
 use mathlib.Core.List.{List}
 use lib.ListN.{length}
 use Rattle.answers.specs.Outcome.{Outcome}
-use Rattle.answers.specs.Answer.{runOutcome}
-use Rattle.answers.specs.declared.RunAnswer.{RunAnswer}
-use Rattle.sentences.specs.Run.{changed, written, Ran}
+use Rattle.sentences.specs.Run.{Ran}
 use Rattle.sentences.proofs.Laws.{ran-refused}
 use Rattle.books.specs.Arrays.{holding}
 use Rattle.books.proofs.Arrays.{fresh-shaped}
@@ -19,9 +17,6 @@ use Rattle.tagger.proofs.run_book.Reads as reads
 use Rattle.tagger.proofs.run_book.Lts as lts
 use Rattle.books.proofs.read_into.Reads as read-into-reads
 use Rattle.tagger.proofs.run_rules.Reads as run-rules-reads
-
-both : {o : Outcome (List ℕ)} {w b a : List ℕ} {r : RunAnswer} → Ran o w b a r → (runOutcome r ≡ changed w o) × (a ≡ written o b)
-both h = (h .answered, h .wrote)
 
 read-into-requires : tie.Need-read-into-requires
 read-into-requires c κs = fresh-shaped
@@ -45,9 +40,8 @@ returns c =
     let st = c .before .before .before .before .before .before .before .before .before .before in
     let r = c .before .before .before .read-into in
     let a = holding (r .last .1 .0) (r .last .1 .1 .0) (r .last .1 .1 .1 .0) in
-    both
-    (ran-refused (bookRun (st .args .book .now) (st .args .sentence .now) (length (st .args .out .now))) (st .args .sentence .now) (st .args .out .now) (c .before .got .given .0 .0)
-    (book-refused (st .args .book .now) a (r .result) (r .ensures) (st .args .sentence .now) (length (st .args .out .now)) _ (c .before .got .given .1)))
+    ran-refused (bookRun (st .args .book .now) (st .args .sentence .now) (length (st .args .out .now))) (st .args .sentence .now) (st .args .out .now) (c .before .got .given .0 .0)
+    (book-refused (st .args .book .now) a (r .result) (r .ensures) (st .args .sentence .now) (length (st .args .out .now)) _ (c .before .got .given .1))
 
 same-length : tie.Need-same-length
 same-length c = search needs
@@ -59,10 +53,9 @@ returns-2 c =
     let a = holding (r .last .1 .0) (r .last .1 .1 .0) (r .last .1 .1 .1 .0) in
     let book = c .before .before .before .before .before .before .before .before .got2 .given in
     let u = c .before .before .run-rules in
-    both
-    (subst (λ (o : Outcome (List ℕ)). Ran o (st .args .sentence .now) (st .args .out .now) (u .last .1 .0) (u .result))
+    subst (λ (o : Outcome (List ℕ)). Ran o (st .args .sentence .now) (st .args .out .now) (u .last .1 .0) (u .result))
     (book-runs (st .args .book .now) a (r .result) (r .ensures) (book .0 .0) (book .0 .1 .0) (book .1) (st .args .sentence .now) (length (st .args .out .now)))
-    (u .ensures))
+    (u .ensures)
 
 pub run-book-spec : {M : Type 1} → statement M
 run-book-spec =

@@ -1,0 +1,172 @@
+-- Balanced steps, as the counts of the index tell them.
+use Prim.Native.Nat.{ℕ, suc, _+_, _*_, _<_, _≤_, _-_, min}
+use native.Mathlib.Nat.{zero-mul}
+use native.Mathlib.Omega.{arith}
+use mathlib.Core.Path.{_≡_, refl, sym, ap, subst, _∙_}
+use mathlib.Core.Bool.{Bool, true, false}
+use mathlib.Core.List.{List, [], _∷_, _++_}
+use borrow.Author.Tests.{eq-eqb, ne-eqb}
+use lib.Dec.{eqb}
+use lib.ListN.{length, drop, getD, length-drop, drop-of-length-le}
+use lib.Seq.{drop-drop, drop-cons}
+use Rattle.words.specs.Word.{Below}
+use Rattle.limits.specs.Limits.{most-held}
+use Rattle.answers.specs.Outcome.{Outcome, result}
+use Rattle.transducers.specs.Table.{Step, Row, Table, row, step, no-step, no-row}
+use Rattle.tables.specs.Bytes.{joined, rowBytes}
+use Rattle.tables.specs.Decode.{malformed, many, readRow, readTable, decode, ended, rowsBalanced}
+use Rattle.decoder.specs.Index.{countOf, baseOf, TableCells, Part, PartRead, Level, Linked, Decides, Head, RowsRead, Loaded, LoadedIf}
+use Rattle.decoder.specs.declared.Reached.{Reached}
+use Rattle.decoder.specs.declared.Reached.the-variants.{To, Malformed}
+use Rattle.words.proofs.Word.{below-drop}
+use Rattle.tables.proofs.Parts.{Every, every-at, every-of, GoodStep, GoodRow, many-read, row-read}
+use Rattle.decoder.proofs.Places.{row-inside}
+use Rattle.tables.proofs.Theorem.{Balanced, RowBalanced, rows-balanced, balanced-rows, table-at, decoded}
+
+pub decided-true : (b : Bool) (P : Type 0) → Decides b P → b ≡ true → P
+decided-true true P d e = d
+decided-true false P d e = let z : _≡_ {A = ℕ} 0 1 = cc in absurd (omega arith)
+
+pub decided-false : (b : Bool) (P : Type 0) → Decides b P → b ≡ false → P → ⊥
+decided-false false P d e p = d p
+decided-false true P d e p = let z : _≡_ {A = ℕ} 0 1 = cc in omega arith
+
+-- a table whose states were read, with its index
+module _ (k s : ℕ) (bs ix : List ℕ) (t : Table) (states : length t ≡ s) (good : Every (GoodRow k s) t) (cells : TableCells k s bs ix t) where
+  row-good : (q : ℕ) → q < s → GoodRow k s (row t q)
+  row-good q h = every-at (GoodRow k s) t no-row q good (omega arith)
+
+  step-good : (q a : ℕ) → q < s → a < k → GoodStep k s (step t q a)
+  step-good q a h g = every-at (GoodStep k s) (row t q .steps) no-step a (row-good q h .steps) (omega (arith, row-good q h .whole))
+
+  held : (q : ℕ) (h : q < s) → countOf (getD ix (q * (k + 1)) 0) ≡ length (row t q .final)
+  held q h = omega (arith, cells q h .final .count-is, row-good q h .held)
+
+  module _ (q a : ℕ) (h : q < s) (g : a < k) where
+    base : baseOf (getD ix (q * (k + 1) + 1 + a) 0) ≡ step t q a .next * (k + 1) + 1
+    base = cells q h .steps a g .base-is
+
+    next-held : countOf (getD ix (baseOf (getD ix (q * (k + 1) + 1 + a) 0) - 1) 0) ≡ length (row t (step t q a .next) .final)
+    next-held =
+        let e : baseOf (getD ix (q * (k + 1) + 1 + a) 0) - 1 ≡ step t q a .next * (k + 1) = omega (arith, base) in
+        rw e (held (step t q a .next) (step-good q a h g .next-below))
+
+    level-balanced : Level ix (q * (k + 1)) a → Balanced t (length (row t q .final)) (step t q a)
+    level-balanced l = omega (arith, l, held q h, next-held, cells q h .steps a g .count-is, row-good q h .held)
+
+    balanced-level : Balanced t (length (row t q .final)) (step t q a) → Level ix (q * (k + 1)) a
+    balanced-level l = omega (arith, l, held q h, next-held, cells q h .steps a g .count-is, row-good q h .held)
+
+    pub linked : s * (k + 1) ≤ length ix → Linked ix (q * (k + 1)) a
+    linked room =
+        let inside = row-inside (step t q a .next) s k (length ix) (step-good q a h g .next-below) room in
+        (omega (arith, base), omega (arith, base, inside))
+
+  pub levels-balanced : ((q a : ℕ) → q < s → a < k → Level ix (q * (k + 1)) a) → rowsBalanced t t ≡ true
+  levels-balanced all =
+      balanced-rows t t
+      (every-of (RowBalanced t) t no-row
+      (λ q h. every-of (Balanced t (length (row t q .final))) (row t q .steps) no-step
+      (λ a g.
+      let h' : q < s = omega arith in
+      let g' : a < k = omega (arith, row-good q h' .whole) in
+      level-balanced q a h' g' (all q a h' g'))))
+
+  pub balanced-levels : rowsBalanced t t ≡ true → (q a : ℕ) → q < s → a < k → Level ix (q * (k + 1)) a
+  balanced-levels e q a h g =
+      balanced-level q a h g
+      (every-at (Balanced t (length (row t q .final))) (row t q .steps) no-step a
+      (every-at (RowBalanced t) t no-row q (rows-balanced t t e) (omega arith))
+      (omega (arith, row-good q h .whole)))
+
+-- the states were read after the head; what is left are the last byte and the held tags
+module _
+    (k s : ℕ) (bs ix : List ℕ) (end : ℕ)
+    (head : Head bs k s)
+    (bytes : Below 0x100 bs)
+    (p : Part (many (readRow k s) rowBytes s) (joined rowBytes) (TableCells k s bs ix) bs 4 end)
+  where
+    rows : (length (p .value) ≡ s) × Every (GoodRow k s) (p .value)
+    rows =
+        let r = many-read (readRow k s) rowBytes (GoodRow k s) (row-read k s) s (drop 4 bs) (p .value) (below-drop 0x100 4 bs bytes) (p .reads) in
+        (r .0, r .1 .good)
+
+    behind : drop (length (joined rowBytes (p .value))) (drop 4 bs) ≡ drop end bs
+    behind = rw (p .end) (drop-drop (length (joined rowBytes (p .value))) 4 bs)
+
+    last-case : ended (drop (length (joined rowBytes (p .value))) (drop 4 bs)) ≡ false → readTable k s (drop 4 bs) ≡ malformed
+    last-case e = rw (p .reads) (rw e refl)
+
+    ended-not : (l : List ℕ) → (length l ≡ 1 → ⊥) → ended l ≡ false
+    ended-not [] n = refl
+    ended-not (x ∷ []) n = absurd (n refl)
+    ended-not (x ∷ y ∷ l) n = refl
+
+    pub load-longer : (length bs - end ≡ 1 → ⊥) → decode bs ≡ malformed
+    load-longer n = head .left ∙ last-case (rw behind (ended-not (drop end bs) (λ e. n (rw length-drop at e))))
+
+    module _ (one : length bs - end ≡ 1) where
+      last : drop end bs ≡ getD bs end 0 ∷ []
+      last =
+          let h : end < length bs = omega arith in
+          let past : length bs ≤ suc end = omega arith in
+          let none : drop (suc end) bs ≡ [] = drop-of-length-le bs past in
+          drop-cons bs end 0 h ∙ ap (λ (l : List ℕ). getD bs end 0 ∷ l) none
+
+      pub load-other : (getD bs end 0 ≡ 0 → ⊥) → decode bs ≡ malformed
+      load-other n = head .left ∙ last-case (rw (behind, last) (ne-eqb (getD bs end 0) 0 n))
+
+      module _ (zero-last : getD bs end 0 ≡ 0) where
+        ends : ended (drop (length (joined rowBytes (p .value))) (drop 4 bs)) ≡ true
+        ends = rw (behind, last) (eq-eqb (getD bs end 0) 0 zero-last)
+
+        first-held : countOf (getD ix 0 0) ≡ length (row (p .value) 0 .final)
+        first-held = rw zero-mul at (held k s bs ix (p .value) (rows .0) (rows .1) (p .holds) 0 (omega (arith, head .some-states)))
+
+        start-case : eqb (length (row (p .value) 0 .final)) 0 ≡ false → readTable k s (drop 4 bs) ≡ malformed
+        start-case e = rw (p .reads) (rw (ends, e) refl)
+
+        pub load-start : (countOf (getD ix 0 0) ≡ 0 → ⊥) → decode bs ≡ malformed
+        load-start n = head .left ∙ start-case (ne-eqb _ 0 (λ e. n (first-held ∙ e)))
+
+        level-case : eqb (length (row (p .value) 0 .final)) 0 ≡ true → rowsBalanced (p .value) (p .value) ≡ false → readTable k s (drop 4 bs) ≡ malformed
+        level-case e f = rw (p .reads) (rw (ends, e, f) refl)
+
+        not-balanced : (b : Bool) → (b ≡ true → ⊥) → b ≡ false
+        not-balanced true n = absurd (n refl)
+        not-balanced false n = refl
+
+        pub load-all :
+            s * (k + 1) ≤ length ix
+            → countOf (getD ix 0 0) ≡ 0
+            → (r : Bool)
+            → Decides r ((q a : ℕ) → q < s → a < k → Level ix (q * (k + 1)) a)
+            → LoadedIf r bs k ix
+        load-all room e true d =
+            let t = p .value in
+            let decodes : decode bs ≡ result (record { tags = k; table = t }) =
+            head .left ∙ table-at k s (drop 4 bs) t (p .reads) ends (sym first-held ∙ e) (levels-balanced k s bs ix t (rows .0) (rows .1) (p .holds) d) in
+            record {
+              table = t;
+              decodes = decodes;
+              valid = decoded bs (record { tags = k; table = t }) bytes decodes .0;
+              cells = rw (rows .0) (p .holds);
+              room = rw (rows .0) room;
+            }
+        load-all room e false d =
+            head .left
+            ∙ level-case (eq-eqb _ 0 (sym first-held ∙ e))
+            (not-balanced (rowsBalanced (p .value) (p .value)) (λ b. d (balanced-levels k s bs ix (p .value) (rows .0) (rows .1) (p .holds) b)))
+
+    pub load-linked : s * (k + 1) ≤ length ix → (q a : ℕ) → q < s → a < k → Linked ix (q * (k + 1)) a
+    load-linked room q a h g = linked k s bs ix (p .value) (rows .0) (rows .1) (p .holds) q a h g room
+
+-- what reading the states answers
+module _ (k s : ℕ) (bs ix : List ℕ) (r : Reached) (head : Head bs k s) (p : PartRead (many (readRow k s) rowBytes s) (joined rowBytes) (TableCells k s bs ix) bs 4 r) where
+  pub load-not : r ≡ Malformed → decode bs ≡ malformed
+  load-not e =
+      let stop : many (readRow k s) rowBytes s (drop 4 bs) ≡ malformed = rw e at p in
+      head .left ∙ rw stop refl
+
+  pub load-rows : (end : ℕ) → r ≡ To end → s * (k + 1) ≤ length ix → RowsRead bs k s ix end
+  load-rows end e room = record { head = head; rows = rw e at p; room = room }

@@ -1,0 +1,57 @@
+-- `decoder::level_row` meets its contract.
+use Prim.Native.Nat.{ℕ, _-_, _≤_, _<_}
+use native.Mathlib.Omega.{arith}
+use borrow.Author.Count.{below-more}
+use borrow.Author.Needs.{needs}
+use borrow.Author.Tests.{not-true, not-false}
+use Rattle.decoder.specs.Index.{Level}
+use Rattle.decoder.proofs.Level.{decided-true, decided-false}
+use Rattle.decoder.proofs.level_row.Statement.{statement}
+use Rattle.decoder.proofs.level_row.Tie as tie
+use Rattle.decoder.proofs.level_row.Reads as reads
+use Rattle.decoder.proofs.level_row.Lts as lts
+use Rattle.decoder.proofs.level_step.Reads as level-step-reads
+
+abbrev Inv-loop : tie.InvT-loop
+Inv-loop index cell k a₀ a = (a ≤ k) × ((b : ℕ) → b < a → Level index cell b)
+
+abbrev μ-loop : tie.MeasureT-loop
+μ-loop index cell k a₀ a = k - a
+
+loop-holds : tie.Need-loop-holds Inv-loop μ-loop
+loop-holds c = search needs
+
+level-step-requires : tie.Need-level-step-requires Inv-loop μ-loop
+level-step-requires c κs = (omega arith, c .before .before .before .pre .1 (c .before .loop .a) (omega arith))
+
+returns : tie.Need-returns Inv-loop μ-loop
+returns c all =
+    let call = c .before in
+    let a = call .before .before .loop .a in
+    decided-false (call .level-step .result) _ (call .level-step .ensures) (not-true (call .level-step .result) (c .if1 .taken)) (all a (omega arith))
+
+add-a : tie.Need-add-a Inv-loop μ-loop
+add-a c = search needs
+
+loop-less : tie.Need-loop-less Inv-loop μ-loop
+loop-less c = search needs
+
+loop-again : tie.Need-loop-again Inv-loop μ-loop
+loop-again c = (omega arith, below-more _ _ (c .before .before .before .loop .inv .1) (decided-true (c .before .level-step .result) _ (c .before .level-step .ensures) (not-false (c .before .level-step .result) (c .if1 .left))))
+
+returns-2 : tie.Need-returns-2 Inv-loop μ-loop
+returns-2 c a h = c .before .loop .inv .1 a (omega arith)
+
+pub level-row-spec : {M : Type 1} → statement M
+level-row-spec =
+    tie.close
+    (tie.spec
+    Inv-loop
+    μ-loop
+    loop-holds
+    level-step-requires
+    returns
+    add-a
+    loop-less
+    loop-again
+    returns-2)

@@ -1,0 +1,4 @@
+-- Laws that the functions' proofs cite.
+pub mod Output
+pub mod Turn
+pub mod Runs

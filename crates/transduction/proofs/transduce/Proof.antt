@@ -1,0 +1,131 @@
+-- `transduction::transduce` meets its contract. The loop keeps the state that the transducer is in, and what it has put out.
+use Prim.Native.Nat.{ℕ, _+_, _-_, _≤_, _<_}
+use native.Mathlib.Omega.{arith}
+use borrow.Author.Needs.{needs}
+use mathlib.Core.Path.{_≡_, refl}
+use lib.ListN.{length, drop}
+use Rattle.transduction.proofs.Turn.{Going, going-start, turn-inside, turn-cell, turn-short, turn-place, turn-room, turn-count, turn-next, end-inside, end-base, end-place, end-count, end-made}
+use Rattle.transduction.proofs.transduce.Statement.{statement}
+use Rattle.transduction.proofs.transduce.Tie as tie
+use Rattle.transduction.proofs.transduce.Reads as reads
+use Rattle.transduction.proofs.transduce.Lts as lts
+use Rattle.decoder.proofs.base_of.Reads as base-of-reads
+use Rattle.decoder.proofs.count_of.Reads as count-of-reads
+use Rattle.decoder.proofs.entry_at.Reads as entry-at-reads
+use Rattle.decoder.proofs.place_of.Reads as place-of-reads
+use Rattle.transduction.proofs.put.Reads as put-reads
+use Rattle.transduction.proofs.put_word.Reads as put-word-reads
+
+abbrev Inv-loop : tie.InvT-loop
+Inv-loop table index sentence out₀ base₀ at₀ i₀ out base at i = Going table index sentence out₀ out i at base
+
+abbrev μ-loop : tie.MeasureT-loop
+μ-loop table index sentence out₀ base₀ at₀ i₀ out base at i = length sentence - i
+
+loop-holds : tie.Need-loop-holds Inv-loop μ-loop
+loop-holds c =
+    let start = c .before .before .before .before in
+    let a = start .args in
+    going-start (a .table .now) (a .index .now) (a .sentence .now) (a .out .now) (start .pre)
+
+shared-slice-read-entry-at : tie.Need-shared-slice-read-entry-at Inv-loop μ-loop
+shared-slice-read-entry-at c = search needs
+
+entry-at-requires : tie.Need-entry-at-requires Inv-loop μ-loop
+entry-at-requires c κs =
+    let b = c .before .before in
+    turn-inside (b .loop .inv) (omega arith)
+
+put-requires : tie.Need-put-requires Inv-loop μ-loop
+put-requires c κs =
+    let b = c .before .before .before .before in
+    let e = c .before .entry-at in (
+      turn-place (b .loop .inv) (omega arith) (e .result) (e .ensures),
+      turn-room (b .loop .inv) (omega arith) (e .result) (e .ensures),
+      turn-count (b .loop .inv) (omega arith) (e .result) (e .ensures),
+    )
+
+base-of-requires : tie.Need-base-of-requires Inv-loop μ-loop
+base-of-requires c κs = search needs
+
+add-i : tie.Need-add-i Inv-loop μ-loop
+add-i c = search needs
+
+loop-less : tie.Need-loop-less Inv-loop μ-loop
+loop-less c = search needs
+
+loop-again : tie.Need-loop-again Inv-loop μ-loop
+loop-again c =
+    let b = c .before .before .before .before .before .before .before .before in
+    let a = b .before .before .before .before .before .args in
+    let call = c .before .before .before in
+    let e = call .before .before .entry-at in
+    let h : b .loop .i < length (a .sentence .now) = omega arith in
+    let put =
+    call .put .ensures _ _ (turn-cell (b .loop .inv) h (e .result) (e .ensures)) (turn-short (b .loop .inv) h (e .result) (e .ensures)) in
+    turn-next (b .loop .inv) h (e .result) (e .ensures) (call .put .last .1 .1 .0) (call .put .result) put
+    (c .base-of .result)
+    (c .base-of .ensures)
+    (search needs)
+
+sub-e : tie.Need-sub-e Inv-loop μ-loop
+sub-e c =
+    let b = c .before in
+    omega (arith, end-base (b .loop .inv) (omega arith))
+
+mul-e : tie.Need-mul-e Inv-loop μ-loop
+mul-e c =
+    let b = c .before in
+    omega (arith, end-inside (b .loop .inv) (omega arith))
+
+shared-slice-read-e : tie.Need-shared-slice-read-e Inv-loop μ-loop
+shared-slice-read-e c =
+    let b = c .before .before in
+    omega (arith, end-inside (b .loop .inv) (omega arith))
+
+place-of-requires : tie.Need-place-of-requires Inv-loop μ-loop
+place-of-requires c κs = search needs
+
+count-of-requires : tie.Need-count-of-requires Inv-loop μ-loop
+count-of-requires c κs = search needs
+
+put-word-requires : tie.Need-put-word-requires Inv-loop μ-loop
+put-word-requires c κs =
+    let b = c .before .before .before .before .before in
+    let a = b .before .before .before .before .before .args in (
+      omega (arith, end-place (b .loop .inv) (omega arith) _ refl),
+      omega (arith, end-count (b .loop .inv) (omega arith) _ refl),
+    )
+
+same-length : tie.Need-same-length Inv-loop μ-loop
+same-length c = omega (arith, c .before .before .before .before .before .before .before .before .loop .inv .long)
+
+returns : tie.Need-returns Inv-loop μ-loop
+returns c =
+    let b = c .before .before .before .before .before .before .before .before in
+    let call = c .before .before in
+    let count = call .before .before in
+    end-made (b .loop .inv) (omega arith) _ refl (count .before .place-of .result) (count .count-of .result) (call .put-word .last .1 .1 .1 .0) (search needs) (search needs) (call .put-word .ensures)
+
+pub transduce-spec : {M : Type 1} → statement M
+transduce-spec =
+    tie.close
+    (tie.spec
+    Inv-loop
+    μ-loop
+    loop-holds
+    shared-slice-read-entry-at
+    entry-at-requires
+    put-requires
+    base-of-requires
+    add-i
+    loop-less
+    loop-again
+    sub-e
+    mul-e
+    shared-slice-read-e
+    place-of-requires
+    count-of-requires
+    put-word-requires
+    same-length
+    returns)

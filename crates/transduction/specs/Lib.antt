@@ -1,0 +1,2 @@
+-- What the parts of a table's run promise one another.
+pub mod Parts

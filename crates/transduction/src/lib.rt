@@ -1,0 +1,177 @@
+// The run of a table over a sentence. Reading a table is running it over no tags.
+use answers::Refusal;
+use answers::RunAnswer;
+use decoder::TableAnswer;
+use decoder::base_of;
+use decoder::count_of;
+use decoder::entry_at;
+use decoder::place_of;
+use decoder::tag_of;
+use sentences::Admission;
+ghost use mathlib.Core.Path.{_≡_};
+ghost use Prim.Native.Nat.{ℕ, _+_, _*_, _≤_, _<_};
+ghost use mathlib.Core.List.{List, _++_};
+ghost use lib.ListN.{length, drop};
+ghost use lib.Seq.{paste};
+ghost use Rattle.limits.specs.Limits.{most-tags, most-states};
+ghost use Rattle.sentences.specs.Run.{Ran};
+ghost use Rattle.tables.specs.Decode.{decode};
+ghost use Rattle.tables.specs.Run.{tableRun, sizeOf};
+ghost use Rattle.decoder.specs.Answer.{tableOutcome};
+ghost use Rattle.decoder.specs.Index.{countOf, placeOf, Stands, Cell, Head, Loaded};
+ghost use Rattle.transduction.specs.Parts.{Put, Ready, made};
+
+// The tags from a place of the table, each second byte, to `out` from `at`.
+fn put_word(table: &[u8], place: usize, count: usize, out: &mut [u8], at: usize)
+    requires { ⌜ (place + 2 * count ≤ length (now table) + 1) × (at + count ≤ length (now out)) ⌝ }
+    ensures { λ r. ⌜ ((w : List ℕ) → length w ≡ count → Stands (now (table .entry)) place w → now (out .exit) ≡ paste (now (out .entry)) at w count) ⌝ }
+{
+    let mut j = 0;
+    while j < count {
+        out[at + j] = table[place + 2 * j];
+        j += 1;
+    }
+}
+
+// The word of a step's entry to `out` from `at`. One tag is stored whether or not there is one: `out` goes on, and what comes later is stored over it.
+fn put(table: &[u8], e: u64, out: &mut [u8], at: usize) -> usize
+    requires { ⌜ ((countOf e ≡ 1 → ⊥) → placeOf e + 2 * countOf e ≤ length (now table) + 1) × (at < length (now out)) × (at + countOf e ≤ length (now out)) ⌝ }
+    ensures { λ r. ⌜ ((base : ℕ) (w : List ℕ) → Cell (now (table .entry)) base w e → length w < 0xff → Put (now (out .entry)) (now (out .exit)) at w r) ⌝ }
+{
+    let count = count_of(e);
+    out[at] = tag_of(e);
+    if count < 2 {
+        return at + count;
+    }
+    put_word(table, place_of(e), count, out, at);
+    at + count
+}
+
+// The words put out from state 0, and the final word.
+fn transduce(table: &[u8], index: &[u64], sentence: &[u8], out: &mut [u8])
+    requires { ⌜ Ready (now table) (now index) (now sentence) (now out) ⌝ }
+    ensures { λ r. ⌜ now (out .exit) ≡ made (decode (now (table .entry))) (now (sentence .entry)) ++ drop (length (now (sentence .entry))) (now (out .entry)) ⌝ }
+{
+    let mut base = 1;
+    let mut at = 0;
+    let mut i = 0;
+    while i < sentence.len() {
+        let e = entry_at(index, base, sentence[i]);
+        at = put(table, e, out, at);
+        base = base_of(e);
+        i += 1;
+    }
+    let e = index[base - 1];
+    put_word(table, place_of(e), count_of(e), out, at);
+}
+
+// The run of a table that is read.
+fn run_loaded(table: &[u8], k: usize, index: &[u64], sentence: &[u8], out: &mut [u8]) -> RunAnswer
+    requires { ⌜ Loaded (now table) k (now index) ⌝ }
+    ensures { λ r. ⌜ Ran (tableRun (now (table .entry)) (now (sentence .entry)) (length (now (out .entry)))) (now (sentence .entry)) (now (out .entry)) (now (out .exit)) r ⌝ }
+{
+    let admission = sentences::admit(sentence, k as u8, out.len());
+    if let Admission::Refused(r) = admission {
+        return RunAnswer::Refused(r);
+    }
+    transduce(table, index, sentence, out);
+    let n = sentence.len();
+    RunAnswer::Changed(sentences::count_changes(sentence, &out[..n]))
+}
+
+// The run of a table whose head is read, with room for its index.
+fn run_within(
+    table: &[u8],
+    k: usize,
+    s: usize,
+    sentence: &[u8],
+    out: &mut [u8],
+    index: &mut [u64],
+) -> RunAnswer
+    requires { ⌜ Head (now table) k s × (s * (k + 1) ≤ length (now index)) ⌝ }
+    ensures { λ r. ⌜ Ran (tableRun (now (table .entry)) (now (sentence .entry)) (length (now (out .entry)))) (now (sentence .entry)) (now (out .entry)) (now (out .exit)) r ⌝ }
+{
+    if !decoder::load(table, k, s, index) {
+        return RunAnswer::Refused(Refusal::Bare { number: 12 });
+    }
+    run_loaded(table, k, index, sentence, out)
+}
+
+// An index is cleared for each call: small tables have a small one.
+const SMALL: usize = 192;
+
+const MIDDLE: usize = 1024;
+
+const BIG: usize = 4096;
+
+fn run_small(table: &[u8], k: usize, s: usize, sentence: &[u8], out: &mut [u8]) -> RunAnswer
+    requires { ⌜ Head (now table) k s × (s * (k + 1) ≤ 192) ⌝ }
+    ensures { λ r. ⌜ Ran (tableRun (now (table .entry)) (now (sentence .entry)) (length (now (out .entry)))) (now (sentence .entry)) (now (out .entry)) (now (out .exit)) r ⌝ }
+{
+    let mut index = [0u64; SMALL];
+    run_within(table, k, s, sentence, out, &mut index)
+}
+
+fn run_middle(table: &[u8], k: usize, s: usize, sentence: &[u8], out: &mut [u8]) -> RunAnswer
+    requires { ⌜ Head (now table) k s × (s * (k + 1) ≤ 1024) ⌝ }
+    ensures { λ r. ⌜ Ran (tableRun (now (table .entry)) (now (sentence .entry)) (length (now (out .entry)))) (now (sentence .entry)) (now (out .entry)) (now (out .exit)) r ⌝ }
+{
+    let mut index = [0u64; MIDDLE];
+    run_within(table, k, s, sentence, out, &mut index)
+}
+
+fn run_big(table: &[u8], k: usize, s: usize, sentence: &[u8], out: &mut [u8]) -> RunAnswer
+    requires { ⌜ Head (now table) k s × (s * (k + 1) ≤ 4096) ⌝ }
+    ensures { λ r. ⌜ Ran (tableRun (now (table .entry)) (now (sentence .entry)) (length (now (out .entry)))) (now (sentence .entry)) (now (out .entry)) (now (out .exit)) r ⌝ }
+{
+    let mut index = [0u64; BIG];
+    run_within(table, k, s, sentence, out, &mut index)
+}
+
+fn run_large(table: &[u8], k: usize, s: usize, sentence: &[u8], out: &mut [u8]) -> RunAnswer
+    requires { ⌜ Head (now table) k s × (s * (k + 1) ≤ most-states * (most-tags + 1)) ⌝ }
+    ensures { λ r. ⌜ Ran (tableRun (now (table .entry)) (now (sentence .entry)) (length (now (out .entry)))) (now (sentence .entry)) (now (out .entry)) (now (out .exit)) r ⌝ }
+{
+    let mut index = [0u64; decoder::ENTRIES];
+    run_within(table, k, s, sentence, out, &mut index)
+}
+
+fn run_states(table: &[u8], k: usize, s: usize, sentence: &[u8], out: &mut [u8]) -> RunAnswer
+    requires { ⌜ Head (now table) k s ⌝ }
+    ensures { λ r. ⌜ Ran (tableRun (now (table .entry)) (now (sentence .entry)) (length (now (out .entry)))) (now (sentence .entry)) (now (out .entry)) (now (out .exit)) r ⌝ }
+{
+    let n = decoder::entries(k, s);
+    if n <= SMALL {
+        return run_small(table, k, s, sentence, out);
+    }
+    if n <= MIDDLE {
+        return run_middle(table, k, s, sentence, out);
+    }
+    if n <= BIG {
+        return run_big(table, k, s, sentence, out);
+    }
+    run_large(table, k, s, sentence, out)
+}
+
+// Runs a table over a sentence: the number of changed tags, or 12, 13, 4 or 11 in that order.
+pub fn run_table(table: &[u8], sentence: &[u8], out: &mut [u8]) -> RunAnswer
+    ensures { λ r. ⌜ Ran (tableRun (now (table .entry)) (now (sentence .entry)) (length (now (out .entry)))) (now (sentence .entry)) (now (out .entry)) (now (out .exit)) r ⌝ }
+{
+    let got = decoder::read_head(table);
+    let TableAnswer::Table { tags, states } = got else {
+        return RunAnswer::Refused(Refusal::Bare { number: 12 });
+    };
+    run_states(table, tags, states, sentence, out)
+}
+
+// Reads a table: its K and S, or 12. No sentence of no tags is refused.
+pub fn read_table(table: &[u8]) -> TableAnswer
+    ensures { λ r. ⌜ tableOutcome r ≡ sizeOf (now (table .entry)) ⌝ }
+{
+    let mut out = [0u8; 1];
+    let ran = run_table(table, &table[..0], &mut out);
+    if let RunAnswer::Refused(r) = ran {
+        return TableAnswer::Refused(r);
+    }
+    decoder::read_head(table)
+}
