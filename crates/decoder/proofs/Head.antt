@@ -9,21 +9,21 @@ use lib.Dec.{eqb, leb}
 use lib.ListN.{length, drop, getD}
 use Rattle.words.specs.Word.{Below}
 use Rattle.limits.specs.Limits.{fewest-tags, most-tags, most-states}
-use Rattle.answers.specs.Outcome.{Outcome, result}
+use Rattle.answers.specs.Outcome.{Outcome, result, provided}
 use Rattle.answers.specs.declared.Refusal.{Refusal}
 use Rattle.answers.specs.declared.Refusal.the-variants.{Bare}
 use Rattle.tables.specs.Bytes.{number}
-use Rattle.tables.specs.Decode.{Decoded, provided, malformed, decode}
+use Rattle.tables.specs.Decode.{Decoded, malformed, decode}
 use Rattle.tables.proofs.Theorem.{decoded, head-at}
 use Rattle.tables.proofs.Outcomes.{Read, gave, refuses, read-decode, valid-length}
 use Rattle.decoder.specs.Index.{Head, HeadRead}
 use Rattle.decoder.specs.declared.TableAnswer.{TableAnswer}
 
 -- a test that fails refuses, whatever stands before it
-failed : {A : Type 0} (b : Bool) (o : Outcome A) → b ≡ false → provided b o ≡ malformed
+failed : {A : Type 0} (b : Bool) (o : Outcome A) → b ≡ false → provided 12 b o ≡ malformed
 failed b o e = rw e refl
 
-still : {A : Type 0} (b : Bool) (o : Outcome A) → o ≡ malformed → provided b o ≡ malformed
+still : {A : Type 0} (b : Bool) (o : Outcome A) → o ≡ malformed → provided 12 b o ≡ malformed
 still true o e = e
 still false o e = refl
 

@@ -7,11 +7,11 @@ use mathlib.Core.List.{List, [], _∷_}
 use lib.Dec.{eqb, leb, ltb}
 use lib.ListN.{length, drop, length-append}
 use Rattle.limits.specs.Limits.{fewest-tags, most-tags, most-states, most-held}
-use Rattle.answers.specs.Outcome.{Outcome, result, andThen}
+use Rattle.answers.specs.Outcome.{Outcome, result, andThen, provided}
 use Rattle.transducers.specs.Table.{Step, Row, Table, row, no-step, no-row}
 use Rattle.tables.specs.Valid.{ValidTable}
 use Rattle.tables.specs.Bytes.{number, tagged, joined, stepBytes, rowBytes, encode}
-use Rattle.tables.specs.Decode.{provided, malformed, word, many, readStep, readRow, readTable, decode, ended, rowsBalanced}
+use Rattle.tables.specs.Decode.{malformed, word, many, readStep, readRow, readTable, decode, ended, rowsBalanced}
 use Rattle.tables.proofs.Words.{length-tagged}
 use Rattle.tables.proofs.Parts.{Every, every-of}
 
@@ -64,7 +64,7 @@ pub data Read {A : Type 0} (o : Outcome A) : Type 0 where
   gave : (v : A) → o ≡ result v → Read o
   refuses : o ≡ malformed → Read o
 
-read-provided : {A : Type 0} (b : Bool) (o : Outcome A) → Read o → Read (provided b o)
+read-provided : {A : Type 0} (b : Bool) (o : Outcome A) → Read o → Read (provided 12 b o)
 read-provided true o r = r
 read-provided false o r = refuses refl
 

@@ -11,14 +11,14 @@ use lib.Seq.{drop-append-seam}
 use Rattle.words.specs.Word.{Below}
 use Rattle.words.proofs.Word.{below-drop}
 use Rattle.limits.specs.Limits.{most-held}
-use Rattle.answers.specs.Outcome.{Outcome, result, refused, nothing, andThen}
+use Rattle.answers.specs.Outcome.{Outcome, result, refused, nothing, andThen, provided}
 use Rattle.transducers.specs.Table.{Step, Row, Table}
 use Rattle.tables.specs.Bytes.{number, high, low, tagged, joined, stepBytes, rowBytes}
-use Rattle.tables.specs.Decode.{provided, malformed, word, many, readStep, readRow}
+use Rattle.tables.specs.Decode.{malformed, word, many, readStep, readRow}
 use Rattle.tables.proofs.Words.{Begins, begins-append, begins-of, word-begins, word-below, Stops, word-tagged, number-bytes, high-number, low-number}
 
 -- a test that was passed, and a part that was read
-pub passed : {A : Type 0} (b : Bool) (o : Outcome A) (v : A) → provided b o ≡ result v → (b ≡ true) × (o ≡ result v)
+pub passed : {A : Type 0} (b : Bool) (o : Outcome A) (v : A) → provided 12 b o ≡ result v → (b ≡ true) × (o ≡ result v)
 passed true o v e = (refl, e)
 passed false o v e = let z : _≡_ {A = ℕ} 0 1 = cc in absurd (omega arith)
 

@@ -15,7 +15,7 @@ use Rattle.answers.specs.Outcome.{Outcome, result, refused, nothing, andThen}
 use Rattle.transducers.specs.Table.{Step, Row, Table, row, step, no-step, no-row}
 use Rattle.tables.specs.Valid.{ValidTable}
 use Rattle.tables.specs.Bytes.{number, high, low, joined, rowBytes, encode}
-use Rattle.tables.specs.Decode.{Decoded, provided, malformed, many, readStep, readRow, readTable, decode, ended, stepsBalanced, rowsBalanced}
+use Rattle.tables.specs.Decode.{Decoded, malformed, many, readStep, readRow, readTable, decode, ended, stepsBalanced, rowsBalanced}
 use Rattle.tables.proofs.Words.{Stops, number-bytes, high-number, low-number}
 use Rattle.tables.proofs.Parts.{passed, went, Every, every-at, every-of, GoodStep, GoodRow, many-read, many-encoded, row-read, row-encoded}
 

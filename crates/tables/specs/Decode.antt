@@ -6,7 +6,7 @@ use mathlib.Core.List.{List, [], _∷_}
 use lib.Dec.{eqb, leb, ltb}
 use lib.ListN.{length, drop}
 use Rattle.limits.specs.Limits.{fewest-tags, most-tags, most-states, most-held}
-use Rattle.answers.specs.Outcome.{Outcome, result, refused, nothing, andThen}
+use Rattle.answers.specs.Outcome.{Outcome, result, refused, nothing, andThen, provided}
 use Rattle.transducers.specs.Table.{Step, Row, Table, row}
 use Rattle.tables.specs.Bytes.{number, tagged, joined, stepBytes, rowBytes}
 
@@ -17,11 +17,6 @@ pub record Decoded : Type 0 where
 
 abbrev pub malformed : {A : Type 0} → Outcome A
 malformed = refused 12 nothing
-
--- goes on if the test holds
-abbrev pub provided : {A : Type 0} → Bool → Outcome A → Outcome A
-provided true o = o
-provided false o = malformed
 
 -- the tags of the longest front that has the command with a tag below k, again and again
 abbrev pub word : ℕ → ℕ → List ℕ → List ℕ
@@ -36,8 +31,8 @@ readStep k s [] = malformed
 readStep k s (c ∷ []) = malformed
 readStep k s (c ∷ h ∷ []) = malformed
 readStep k s (c ∷ h ∷ l ∷ bs) =
-    provided (eqb c 0x33)
-    (provided (ltb (number h l) s) (result (record { next = number h l; output = word 0x34 k bs })))
+    provided 12 (eqb c 0x33)
+    (provided 12 (ltb (number h l) s) (result (record { next = number h l; output = word 0x34 k bs })))
 
 -- n parts, one after the other; `bytes` are a part's
 abbrev pub many : {A : Type 0} → (List ℕ → Outcome A) → (A → List ℕ) → ℕ → List ℕ → Outcome (List A)
@@ -50,9 +45,9 @@ abbrev pub readRow : ℕ → ℕ → List ℕ → Outcome Row
 readRow k s [] = malformed
 readRow k s (c ∷ []) = malformed
 readRow k s (c ∷ n ∷ bs) =
-    provided (eqb c 0x31)
-    (provided (leb n most-held)
-    (provided (eqb (length (word 0x32 k bs)) n)
+    provided 12 (eqb c 0x31)
+    (provided 12 (leb n most-held)
+    (provided 12 (eqb (length (word 0x32 k bs)) n)
     (andThen (many (readStep k s) stepBytes k (drop (length (tagged 0x32 (word 0x32 k bs))) bs))
     (λ vs. result (record { final = word 0x32 k bs; steps = vs })))))
 
@@ -77,9 +72,9 @@ rowsBalanced t (r ∷ rs) =
 abbrev pub readTable : ℕ → ℕ → List ℕ → Outcome Decoded
 readTable k s bs =
     andThen (many (readRow k s) rowBytes s bs)
-    (λ t. provided (ended (drop (length (joined rowBytes t)) bs))
-    (provided (eqb (length (row t 0 .final)) 0)
-    (provided (rowsBalanced t t) (result (record { tags = k; table = t })))))
+    (λ t. provided 12 (ended (drop (length (joined rowBytes t)) bs))
+    (provided 12 (eqb (length (row t 0 .final)) 0)
+    (provided 12 (rowsBalanced t t) (result (record { tags = k; table = t })))))
 
 abbrev pub decode : List ℕ → Outcome Decoded
 decode [] = malformed
@@ -87,7 +82,7 @@ decode (c ∷ []) = malformed
 decode (c ∷ k ∷ []) = malformed
 decode (c ∷ k ∷ h ∷ []) = malformed
 decode (c ∷ k ∷ h ∷ l ∷ bs) =
-    provided (eqb c 0x30)
-    (provided (leb fewest-tags k)
-    (provided (leb k most-tags)
-    (provided (leb 1 (number h l)) (provided (leb (number h l) most-states) (readTable k (number h l) bs)))))
+    provided 12 (eqb c 0x30)
+    (provided 12 (leb fewest-tags k)
+    (provided 12 (leb k most-tags)
+    (provided 12 (leb 1 (number h l)) (provided 12 (leb (number h l) most-states) (readTable k (number h l) bs)))))
