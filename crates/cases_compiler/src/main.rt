@@ -5,8 +5,8 @@ mod text;
 
 use answers::RunAnswer;
 use compiler::CompileAnswer;
-use text::put;
-use text::put_number;
+use printing::put;
+use printing::put_number;
 ghost use mathlib.Core.Path.{_≡_};
 ghost use Prim.Native.Nat.{_≤_, _<_};
 ghost use lib.ListN.{length};
@@ -32,7 +32,7 @@ fn answer(book: &[u8], ceiling: usize, work: &mut [u16], out: &mut [u8]) -> usiz
             n
         }
         CompileAnswer::Refused(refusal) => {
-            text::put_refusal(refusal);
+            printing::put_refusal(refusal);
             0
         }
     }

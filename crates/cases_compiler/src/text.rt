@@ -1,33 +1,8 @@
 // What is written to standard output.
-use answers::Refusal;
-use libc::STDOUT_FILENO;
+use printing::put;
+use printing::put_number;
 use words::wide;
 ghost use Prim.Native.Nat.{_≤_, _<_};
-
-pub fn put(bytes: &[u8]) {
-    io::write_all(STDOUT_FILENO, bytes);
-}
-
-pub fn put_number(n: usize) {
-    io::print_decimal(STDOUT_FILENO, n as u64);
-}
-
-pub fn put_refusal(refusal: Refusal) {
-    put(b"refused ");
-    match refusal {
-        Refusal::AtByte { number, byte } => {
-            put_number(number as usize);
-            put(b" at byte ");
-            put_number(byte);
-        }
-        Refusal::AtRule { number, rule } => {
-            put_number(number as usize);
-            put(b" at rule ");
-            put_number(rule);
-        }
-        Refusal::Bare { number } => put_number(number as usize),
-    }
-}
 
 // The S of the table in the first n bytes.
 pub fn put_size(out: &[u8], n: usize) {

@@ -1,10 +1,11 @@
 // Document 01's table cases: each line has a case's name and what was answered.
 mod build;
 
-use answers::Refusal;
 use answers::RunAnswer;
 use decoder::TableAnswer;
-use libc::STDOUT_FILENO;
+use printing::put;
+use printing::put_number;
+use printing::put_refusal;
 ghost use mathlib.Core.Path.{_≡_};
 ghost use Prim.Native.Nat.{_≤_, _<_};
 ghost use lib.ListN.{length};
@@ -78,36 +79,9 @@ const COMMANDS: [usize; 18] = [
     42,
 ];
 
-fn print(text: &[u8]) {
-    io::write_all(STDOUT_FILENO, text);
-}
-
-fn print_number(n: usize) {
-    io::print_decimal(STDOUT_FILENO, n as u64);
-}
-
-fn print_refusal(r: Refusal) {
-    print(b"refused ");
-    match r {
-        Refusal::AtByte { number, byte } => {
-            print_number(number as usize);
-            print(b" at byte ");
-            print_number(byte);
-        }
-        Refusal::AtRule { number, rule } => {
-            print_number(number as usize);
-            print(b" at rule ");
-            print_number(rule);
-        }
-        Refusal::Bare { number } => {
-            print_number(number as usize);
-        }
-    }
-}
-
 fn print_tag(t: u8) {
-    print(b" ");
-    print_number(t as usize);
+    put(b" ");
+    put_number(t as usize);
 }
 
 fn print_tags(tags: &[u8]) {
@@ -122,42 +96,42 @@ fn print_tags(tags: &[u8]) {
 fn print_read(table: &[u8]) {
     match transduction::read_table(table) {
         TableAnswer::Table { tags, states } => {
-            print(b": K ");
-            print_number(tags);
-            print(b", S ");
-            print_number(states);
-            print(b"\n");
+            put(b": K ");
+            put_number(tags);
+            put(b", S ");
+            put_number(states);
+            put(b"\n");
         }
         TableAnswer::Refused(r) => {
-            print(b": ");
-            print_refusal(r);
-            print(b"\n");
+            put(b": ");
+            put_refusal(r);
+            put(b"\n");
         }
     }
 }
 
 fn read(name: &[u8], table: &[u8]) {
-    print(name);
+    put(name);
     print_read(table);
 }
 
 // What a run answers, and the whole output slice then.
 fn run(name: &[u8], table: &[u8], sentence: &[u8], out: &mut [u8]) {
-    print(name);
+    put(name);
     match transduction::run_table(table, sentence, out) {
         RunAnswer::Changed(n) => {
-            print(b": ");
-            print_number(n);
-            print(b" changed, output");
+            put(b": ");
+            put_number(n);
+            put(b" changed, output");
         }
         RunAnswer::Refused(r) => {
-            print(b": ");
-            print_refusal(r);
-            print(b", output");
+            put(b": ");
+            put_refusal(r);
+            put(b", output");
         }
     }
     print_tags(out);
-    print(b"\n");
+    put(b"\n");
 }
 
 fn read_front(name: &[u8], table: &[u8], n: usize)
@@ -263,8 +237,8 @@ fn broken(name: &[u8], at: usize, b: u8)
 fn unknown_command(at: usize)
     requires { ⌜ at < 43 ⌝ }
 {
-    print(b"A, unknown command at ");
-    print_number(at);
+    put(b"A, unknown command at ");
+    put_number(at);
     broken(b"", at, 0x35);
 }
 
@@ -279,8 +253,8 @@ fn unknown_commands() {
 fn front(n: usize)
     requires { ⌜ n ≤ 43 ⌝ }
 {
-    print(b"A, the first ");
-    print_number(n);
+    put(b"A, the first ");
+    put_number(n);
     read_front(b" bytes", &A, n);
 }
 

@@ -5,7 +5,9 @@ use answers::Refusal;
 use answers::RunAnswer;
 use books::BookAnswer;
 use libc::STDIN_FILENO;
-use libc::STDOUT_FILENO;
+use printing::put;
+use printing::put_byte;
+use printing::put_number;
 use text::Call;
 use text::Fault;
 use text::Operand;
@@ -14,14 +16,6 @@ ghost use mathlib.Core.Path.{_≡_};
 ghost use Prim.Native.Nat.{_≤_};
 ghost use lib.ListN.{length};
 ghost use Rattle.console.specs.Operand.{Within};
-
-fn put(bytes: &[u8]) {
-    io::write_all(STDOUT_FILENO, bytes);
-}
-
-fn put_number(n: usize) {
-    io::print_decimal(STDOUT_FILENO, n as u64);
-}
 
 fn put_bytes(bytes: &[u8]) {
     let mut i = 0;
@@ -32,27 +26,9 @@ fn put_bytes(bytes: &[u8]) {
     }
 }
 
-fn put_byte(byte: u8) {
-    io::print_hex(STDOUT_FILENO, byte as u64, 2);
-}
-
-fn put_refusal(refusal: Refusal) {
-    put(b" refused ");
-    match refusal {
-        Refusal::AtByte { number, byte } => {
-            put_number(number as usize);
-            put(b" at byte ");
-            put_number(byte);
-        }
-        Refusal::AtRule { number, rule } => {
-            put_number(number as usize);
-            put(b" at rule ");
-            put_number(rule);
-        }
-        Refusal::Bare { number } => {
-            put_number(number as usize);
-        }
-    }
+fn put_refused(refusal: Refusal) {
+    put(b" ");
+    printing::put_refusal(refusal);
 }
 
 fn put_run(answer: RunAnswer) {
@@ -61,7 +37,7 @@ fn put_run(answer: RunAnswer) {
             put(b" changed ");
             put_number(n);
         }
-        RunAnswer::Refused(refusal) => put_refusal(refusal),
+        RunAnswer::Refused(refusal) => put_refused(refusal),
     }
 }
 
@@ -84,7 +60,7 @@ fn put_book(answer: BookAnswer) {
             put(b" rules ");
             put_number(rules);
         }
-        BookAnswer::Refused(refusal) => put_refusal(refusal),
+        BookAnswer::Refused(refusal) => put_refused(refusal),
     }
 }
 

@@ -4,25 +4,15 @@ use answers::Refusal;
 use books::BookAnswer;
 use compiler::CompileAnswer;
 use libc::STDIN_FILENO;
-use libc::STDOUT_FILENO;
+use printing::put;
+use printing::put_byte;
+use printing::put_number;
 use words::wide;
 ghost use mathlib.Core.Path.{_≡_};
 ghost use Prim.Native.Nat.{_<_};
 ghost use lib.ListN.{length};
 
 const CEILING: usize = 16;
-
-fn put(bytes: &[u8]) {
-    io::write_all(STDOUT_FILENO, bytes);
-}
-
-fn put_number(n: usize) {
-    io::print_decimal(STDOUT_FILENO, n as u64);
-}
-
-fn put_byte(byte: u8) {
-    io::print_hex(STDOUT_FILENO, byte as u64, 2);
-}
 
 fn put_refusal(refusal: Refusal) {
     put(b"refused ");

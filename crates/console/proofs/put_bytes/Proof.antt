@@ -6,8 +6,8 @@ use Rattle.console.proofs.put_bytes.Statement.{statement}
 use Rattle.console.proofs.put_bytes.Tie as tie
 use Rattle.console.proofs.put_bytes.Reads as reads
 use Rattle.console.proofs.put_bytes.Lts as lts
-use Rattle.console.proofs.put.Reads as put-reads
-use Rattle.console.proofs.put_byte.Reads as put-byte-reads
+use Rattle.printing.proofs.put.Reads as put-reads
+use Rattle.printing.proofs.put_byte.Reads as put-byte-reads
 
 abbrev Inv-loop : tie.InvT-loop
 Inv-loop bytes i₀ t3 i = i ≤ length bytes
