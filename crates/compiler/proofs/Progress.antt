@@ -24,7 +24,7 @@ use Rattle.compilation.specs.Compile.{withRules, compileRules, fitting}
 use Rattle.workspace.specs.declared.Grid.{Grid}
 use Rattle.workspace.specs.Cells.{Sized, Kept, In-rows}
 use Rattle.workspace.specs.Holds.{Holds, Ready, tableAt}
-use Rattle.workspace.proofs.Cells.{kept-none, kept-then, kept-wider, sized-kept}
+use Rattle.workspace.proofs.Regions.{kept-none, kept-then, kept-wider, sized-kept}
 use Rattle.workspace.proofs.Holds.{table-at, holds-at}
 use Rattle.addition.specs.Addition.{Addable, more, Added}
 use Rattle.compiler.specs.Answer.{compileOutcome}
@@ -143,6 +143,7 @@ module _ (g : Grid) (W : List ℕ) (ceiling m : ℕ) (a : Arrays) (ok : Compilab
           sized = sized-now;
           rows = omega (arith, ok .rows);
           some = ok .some;
+          small = omega (arith, ok .most);
           few = p .few;
           holds = holds-at g X 0 n (tableOf k (upto a i)) (p .holds) (p .long);
           most = 5 * i;
@@ -201,6 +202,7 @@ module _ (g : Grid) (W : List ℕ) (ceiling m : ℕ) (a : Arrays) (ok : Compilab
         record {
           sized = sized-now;
           inside = omega (arith, p .few, ok .rows);
+          small = omega (arith, p .few, ok .most);
           holds = holds-at g X 0 n (tableOf k (upto a i)) (p .holds) (p .long);
           sound = rw at-is (t .doing .sound);
           most = 5 * i;

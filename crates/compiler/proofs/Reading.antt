@@ -31,7 +31,7 @@ use Rattle.compilation.specs.Compile.{compileRules, fitting, compileCascade, co
 use Rattle.compilation.proofs.Answer.{Told, fits, exceeds, told}
 use Rattle.workspace.specs.declared.Grid.{Grid}
 use Rattle.workspace.specs.Cells.{ix, at, Kept, In-rows}
-use Rattle.workspace.proofs.Cells.{ix-below}
+use Rattle.workspace.proofs.Places.{ix-below}
 use Rattle.compiler.specs.Answer.{compileOutcome, longOf, clears, required, worked}
 use Rattle.compiler.specs.Rules.{upto, outcome, cascadeOf, Compilable, Readable, Ended, Gave}
 use Rattle.compiler.specs.declared.CompileAnswer.{CompileAnswer}
