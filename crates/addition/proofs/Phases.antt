@@ -1,5 +1,5 @@
 -- The phases one after the other: what stands in the rows after each is what the next one needs.
-use Prim.Native.Nat.{ℕ, _+_, _-_, _*_, _≤_}
+use Prim.Native.Nat.{ℕ, _+_, _-_, _*_, _≤_, _<_}
 use native.Mathlib.Omega.{arith}
 use native.Mathlib.Nat.{mul-le-mul-left}
 use mathlib.Core.Path.{_≡_, sym, ap, _∙_, subst}
@@ -22,9 +22,10 @@ use Rattle.transducers.proofs.Number.{doing-number, canonical-number}
 use Rattle.minimal.specs.OneRule.{oneRule, ruleTable}
 use Rattle.minimal.proofs.TableOf.{Good, good-add, good-only, doing-rule}
 use Rattle.workspace.specs.declared.Grid.{Grid}
+use Rattle.workspace.specs.Entries.{CLASS, LINK}
 use Rattle.workspace.specs.Cells.{Sized, Kept, In-rows, Spare}
 use Rattle.workspace.specs.Holds.{Holds, Ready, tableAt}
-use Rattle.workspace.proofs.Cells.{kept-then, kept-wider, sized-kept}
+use Rattle.workspace.proofs.Regions.{kept-then, kept-wider, sized-kept}
 use Rattle.workspace.proofs.Holds.{holds-kept, length-at, table-at, holds-at}
 use Rattle.workspace.proofs.Views.{same-table, ready-kept}
 use Rattle.onerule.specs.Rule.{Room}
@@ -37,12 +38,13 @@ use Rattle.addition.specs.Addition.{Addable, more, Added}
 
 -- rows that hold a table that does something are ready for a phase
 ready-doing : (g : Grid) (W : List ℕ) (base n d : ℕ) (f : List ℕ → List ℕ) (t : Table) → Sized g W → base + n ≤ g .rows → Holds g W base t
-    → length t ≡ n → Doing (g .tags) d f t → d + 8 ≤ g .depth → Ready g W base n
-ready-doing g W base n d f t sized room holds long doing deep =
+    → n < 0x10000 → length t ≡ n → Doing (g .tags) d f t → d + 8 ≤ g .depth → Ready g W base n
+ready-doing g W base n d f t sized room holds small long doing deep =
     let e : tableAt g W base n ≡ t = table-at g W base n t holds long in
     record {
       sized = sized;
       inside = room;
+      small = small;
       holds = holds-at g W base n t holds long;
       sound = rw e (doing .sound);
       most = d;
@@ -109,6 +111,7 @@ module _ (g : Grid) (W : List ℕ) (n ceiling : ℕ) (r : Rule) (ok : Addable g 
           room = ok .deep;
           below = omega (arith, ok .few);
           above = product-fits;
+          small = omega (arith, product-fits, ok .some, ok .small);
         }
 
     -- the composition stands in the rows from the ceiling
@@ -136,7 +139,7 @@ module _ (g : Grid) (W : List ℕ) (n ceiling : ℕ) (r : Rule) (ok : Addable g 
       pub ready-composed : Ready g Y ceiling count
       ready-composed =
           ready-doing g Y ceiling count (ok .most + five) made (composed .table) sized-2 (omega (arith, count-rows, ok .rows, ok .some)) (composed .holds)
-          (composed .long) composed-doing (ok .deep)
+          (omega (arith, count-rows, ok .small)) (composed .long) composed-doing (ok .deep)
 
       composed-same : tableAt g Y ceiling count ≡ composed .table
       composed-same = table-at g Y ceiling count (composed .table) (composed .holds) (composed .long)
@@ -164,7 +167,7 @@ module _ (g : Grid) (W : List ℕ) (n ceiling : ℕ) (r : Rule) (ok : Addable g 
         pub ready-normalized : Ready g Z ceiling count
         ready-normalized =
             ready-doing g Z ceiling count (ok .most + five) made n-table (sized-kept g Y Z sized-2 (normalized .kept .long))
-            (omega (arith, count-rows, ok .rows, ok .some)) (normalized .holds) n-long n-doing (ok .deep)
+            (omega (arith, count-rows, ok .rows, ok .some)) (normalized .holds) (omega (arith, count-rows, ok .small)) n-long n-doing (ok .deep)
 
         pub early-normalized : Early k (shape (tableAt g Z ceiling count))
         early-normalized = rw n-same n-early
@@ -172,19 +175,15 @@ module _ (g : Grid) (W : List ℕ) (n ceiling : ℕ) (r : Rule) (ok : Addable g 
         -- the classes have been noted
         module _ (T : List ℕ) (classed : Merged g Z T ceiling count) where
           v-same : tableAt g T ceiling count ≡ tableAt g Z ceiling count
-          v-same = same-table g Z ceiling count ready-normalized T 1 4 (omega arith) (classed .kept)
+          v-same = same-table g Z ceiling count ready-normalized T CLASS (LINK + 1) (omega arith) (classed .kept)
 
           v-ready : Ready g T ceiling count
-          v-ready = ready-kept g Z ceiling count ready-normalized T 1 4 (omega arith) (classed .kept)
+          v-ready = ready-kept g Z ceiling count ready-normalized T CLASS (LINK + 1) (omega arith) (classed .kept)
 
           pub is-classed : Classed g T ceiling count
           is-classed =
               record {
-                sized = v-ready .sized;
-                room = v-ready .inside;
-                deep = omega (arith, ok .deep);
-                holds = v-ready .holds;
-                sound = v-ready .sound;
+                ready = v-ready;
                 early = rw v-same early-normalized;
                 classes-are = λ q h. rw v-same (classed .named q h);
               }
@@ -226,7 +225,7 @@ module _ (g : Grid) (W : List ℕ) (n ceiling : ℕ) (r : Rule) (ok : Addable g 
                 (kept-then g (In-rows 0 (g .rows)) Y Z U
                 (kept-wider g (In-rows 0 (g .rows)) (In-rows ceiling (ceiling + count)) Y Z (normalized .kept) (λ r' c' e' p. (omega arith, omega (arith, p .1, count-rows, ok .rows, ok .some))))
                 (kept-then g (In-rows 0 (g .rows)) Z T U
-                (kept-wider g (In-rows 0 (g .rows)) (Spare g ceiling (ceiling + count) 1 4) Z T (classed .kept) (λ r' c' e' p. (omega arith, omega (arith, p .1, count-rows, ok .rows, ok .some))))
+                (kept-wider g (In-rows 0 (g .rows)) (Spare g ceiling (ceiling + count) CLASS (LINK + 1)) Z T (classed .kept) (λ r' c' e' p. (omega arith, omega (arith, p .1, count-rows, ok .rows, ok .some))))
                 (kept-wider g (In-rows 0 (g .rows)) _ T U (numbered-is .kept) inside))))
               where
                 inside : (r' c' e' : ℕ) → Rows-notes g 0 ceiling ceiling count r' c' e' → In-rows 0 (g .rows) r' c' e'

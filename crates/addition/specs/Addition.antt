@@ -1,5 +1,5 @@
 -- One more rule: the table in the rows from 0 becomes the one with the rule added, if that has no more states than the ceiling.
-use Prim.Native.Nat.{ℕ, _+_, _-_, _*_, _≤_}
+use Prim.Native.Nat.{ℕ, _+_, _-_, _*_, _≤_, _<_}
 use mathlib.Core.Path.{_≡_}
 use mathlib.Core.List.{List}
 use lib.ListN.{length}
@@ -14,11 +14,12 @@ use Rattle.workspace.specs.declared.Grid.{Grid}
 use Rattle.workspace.specs.Cells.{Sized, Kept, In-rows}
 use Rattle.workspace.specs.Holds.{Holds, tableAt}
 
--- the rows from 0 hold a canonical table, and there is room for its composition with the rule
+-- the rows from 0 hold a canonical table, there is room for its composition with the rule, and its states can be noted
 pub record Addable (g : Grid) (W : List ℕ) (n ceiling : ℕ) (r : Rule) : Type 0 where
   pub sized : Sized g W
   pub rows : 16 * ceiling ≤ g .rows
   pub some : 1 ≤ ceiling
+  pub small : 8 * ceiling < 0x10000
   pub few : n ≤ ceiling
   pub holds : Holds g W 0 (tableAt g W 0 n)
   pub most : ℕ

@@ -62,7 +62,7 @@ module _ (g : Grid) (W : List ℕ) (n : ℕ) (ok : Ready g W 0 n) (tags : g .tag
             };
         room = ok .inside;
         tags = tags;
-        states = omega (arith, ok .inside, ok .sized .rows-small);
+        states = ok .small;
       }
     where
       below-more : (w : List ℕ) → Below (g .tags) w → Below 0x100 w

@@ -21,7 +21,7 @@ use Rattle.compilation.specs.Compile.{withRules, compileCascade, fitting, built
 use Rattle.workspace.specs.declared.Grid.{Grid}
 use Rattle.workspace.specs.Cells.{Sized, Kept, In-rows}
 use Rattle.workspace.specs.Holds.{Holds, Ready, tableAt}
-use Rattle.workspace.proofs.Cells.{kept-none, kept-then, kept-wider, sized-kept}
+use Rattle.workspace.proofs.Regions.{kept-none, kept-then, kept-wider, sized-kept}
 use Rattle.workspace.proofs.Holds.{table-at, holds-at}
 use Rattle.addition.specs.Addition.{Addable, more, Added}
 use Rattle.compiler.specs.Answer.{compileOutcome}
@@ -120,6 +120,7 @@ module _ (g : Grid) (W : List ℕ) (ceiling m : ℕ) (a : Arrays) (ok : Compilab
           sized = sized-now;
           rows = omega (arith, ok .rows);
           some = ok .readable .some;
+          small = omega (arith, ok .readable .most);
           few = p .few;
           holds = holds-at g X 0 n (tableOf (cascadeOf k a i)) (p .holds) (p .long);
           most = 5 * i;
@@ -178,6 +179,7 @@ module _ (g : Grid) (W : List ℕ) (ceiling m : ℕ) (a : Arrays) (ok : Compilab
         record {
           sized = sized-now;
           inside = omega (arith, p .few, ok .rows);
+          small = omega (arith, p .few, ok .readable .most);
           holds = holds-at g X 0 n (tableOf (cascadeOf k a i)) (p .holds) (p .long);
           sound = rw at-is (t .doing .sound);
           most = 5 * i;

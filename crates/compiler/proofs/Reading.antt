@@ -27,7 +27,7 @@ use Rattle.books.proofs.Held.{rules-long, was-refused, was-read, rules-held}
 use Rattle.compilation.specs.Compile.{entries, roomed, tested, built, compileAnswer}
 use Rattle.workspace.specs.declared.Grid.{Grid}
 use Rattle.workspace.specs.Cells.{ix, at, Kept, In-rows}
-use Rattle.workspace.proofs.Cells.{ix-below}
+use Rattle.workspace.proofs.Places.{ix-below}
 use Rattle.compiler.specs.Answer.{compileOutcome, longOf, worked}
 use Rattle.compiler.specs.Rules.{Gave, Readable, Compilable, Ended}
 use Rattle.compiler.specs.declared.CompileAnswer.{CompileAnswer}

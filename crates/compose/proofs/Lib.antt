@@ -1,6 +1,5 @@
 -- Laws of composition in the work slice.
 pub mod Cover
 pub mod Runs
-pub mod Notes
 pub mod Reached
 pub mod Pairs

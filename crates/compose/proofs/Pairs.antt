@@ -1,7 +1,6 @@
 -- The states of the composition as pairs of states: s is (s / m, s % m).
-use Prim.Native.Nat.{ℕ, zero, suc, _+_, _-_, _*_, _/_, _%_, _≤_, _<_}
+use Prim.Native.Nat.{ℕ, suc, _+_, _*_, _/_, _%_, _≤_, _<_}
 use native.Mathlib.Omega.{arith}
-use native.Mathlib.Decide.{ℕ-discrete}
 use native.Mathlib.Nat.{mul-le-mul-right, suc-mul, mod-lt, div-lt-iff-lt-mul}
 use mathlib.Core.Path.{_≡_, refl, sym, ap, ap₂, _∙_}
 use mathlib.Core.Logic.{inl, inr}
@@ -17,20 +16,19 @@ use Rattle.transducers.proofs.Run.{puts-append, walk-below, outputs-length}
 use Rattle.transducers.proofs.Compose.{final-length, sound-product, doing-compose}
 use Rattle.transducers.proofs.Tabulate.{length-table, agree-table, puts-table, doing-table}
 use Rattle.workspace.specs.declared.Grid.{Grid}
-use Rattle.workspace.specs.Cells.{at, word, Inner, Kept, Entry, In-rows, Cell, Spare, Got, Put, Written}
+use Rattle.workspace.specs.Entries.{NEXT, OUTPUT, FINAL, MEMBER}
+use Rattle.workspace.specs.Cells.{at, word, Inner, Kept, Entry, In-rows, Cell, Got, Put, Written}
 use Rattle.workspace.specs.Holds.{Roomy, Holds, tableAt, held, standing}
-use Rattle.workspace.proofs.Cells.{kept-wider, word-length, word-kept, sized-kept, written-more, written-is}
+use Rattle.workspace.proofs.Regions.{kept-wider, sized-kept}
+use Rattle.workspace.proofs.Words.{word-length, word-kept, written-more, written-is}
 use Rattle.workspace.proofs.Holds.{holds-kept, length-at, table-at, roomy-held, holds-table}
+use Rattle.worklist.specs.Worklist.{memberOf, List-notes, Slots, Worklist, Grown, Entered, Place}
+use Rattle.worklist.proofs.Marks.{grown-then, grown-wider, grown-by}
 use Rattle.compose.specs.Runs.{Runs, Ran}
-use Rattle.compose.specs.Pairs.{pairOf, markOf, Pairs, Room, Grown, Entered, Step-notes, Row-notes, Step-paired, State}
+use Rattle.compose.specs.Pairs.{Step-notes, Row-notes, Step-paired, State}
 use Rattle.compose.specs.Composed.{Composable, Composed}
 use Rattle.compose.proofs.Cover.{Covers, covers-puts, covers-sound, covers-held}
 use Rattle.compose.proofs.Reached.{Searching}
-use Rattle.compose.proofs.Notes.{grown-then, grown-wider, grown-by}
-
-nonzero : (x : ℕ) → (x ≡ 0 → ⊥) → 0 < x
-nonzero zero n = absurd (n refl)
-nonzero (suc x) n = omega arith
 
 -- the composition at the pair
 module _ (A R : Shape) (m s a : ℕ) (e : R .count ≡ m) where
@@ -92,18 +90,18 @@ module _ (g : Grid) (W : List ℕ) (first n second m base : ℕ) (ok : Composabl
             (omega (arith, ok .second-held (s % m) (in-second s), outputs-length (g .tags) (standing g W second m) (ok .second-sound) (s % m) (in-second s) w below));
       }
 
-  pub runs-output : (i s a : ℕ) → i < n * m → s < n * m → a < g .tags → Runs g W second m (s % m) (first + s / m) a 1 (base + i) a 1
+  pub runs-output : (i s a : ℕ) → i < n * m → s < n * m → a < g .tags → Runs g W second m (s % m) (first + s / m) a OUTPUT (base + i) a OUTPUT
   runs-output i s a hi h ha =
       let q = s / m in
       let o = ok .first-sound .balanced q a (in-first s h) ha in
-      runs i s a 1 (standing g W first n .output q a) hi h (omega arith) (ok .first-holds .states q (in-first s h) .steps a ha .output-is)
+      runs i s a OUTPUT (standing g W first n .output q a) hi h (omega arith) (ok .first-holds .states q (in-first s h) .steps a ha .output-is)
       (ok .first-sound .output-below q a (in-first s h) ha)
       (omega (arith, o, ok .room, ok .first-held q (in-first s h))) (omega (arith, o, ok .room, ok .first-held q (in-first s h)))
 
-  pub runs-final : (i s : ℕ) → i < n * m → s < n * m → Runs g W second m (s % m) (first + s / m) (g .tags) 7 (base + i) (g .tags) 7
+  pub runs-final : (i s : ℕ) → i < n * m → s < n * m → Runs g W second m (s % m) (first + s / m) (g .tags) FINAL (base + i) (g .tags) FINAL
   runs-final i s hi h =
       let q = s / m in
-      runs i s (g .tags) 7 (standing g W first n .final q) hi h (omega arith) (ok .first-holds .states q (in-first s h) .final-is)
+      runs i s (g .tags) FINAL (standing g W first n .final q) hi h (omega arith) (ok .first-holds .states q (in-first s h) .final-is)
       (ok .first-sound .final-below q (in-first s h))
       (omega (arith, ok .room, ok .first-held q (in-first s h))) (omega (arith, ok .room, ok .first-held q (in-first s h)))
 
@@ -131,11 +129,26 @@ module _ (g : Grid) (W : List ℕ) (first n second m base : ℕ) (ok : Composabl
   pub count-product : product (standing g W first n) (standing g W second m) .count ≡ n * m
   count-product = rw (length-at g W first n, length-at g W second m)
 
-  pub room : Room g W base (n * m)
-  room = record { sized = ok .sized; inside = omega (arith, ok .above, ok .second-holds .room); deep = omega (arith, ok .room) }
+  pub pairs-some : 0 < n * m
+  pairs-some =
+      omega (
+        arith,
+        sound-product (g .tags) (standing g W first n) (standing g W second m) (ok .first-sound) (ok .second-sound) .some,
+        count-product,
+      )
+
+  pub slots : Slots g W base (n * m)
+  slots =
+      record {
+        sized = ok .sized;
+        inside = omega (arith, ok .above, ok .second-holds .room);
+        deep = omega (arith, ok .room);
+        some = pairs-some;
+        small = ok .small;
+      }
 
   module _ (i s a : ℕ) (hi : i < n * m) (h : s < n * m) (ha : a < g .tags) (X : List ℕ) (to : ℕ)
-      (ran : Ran g W X second m (s % m) (first + s / m) a 1 (base + i) a 1 [] to) where
+      (ran : Ran g W X second m (s % m) (first + s / m) a OUTPUT (base + i) a OUTPUT [] to) where
     to-is : to ≡ walk (standing g W second m) (s % m) (standing g W first n .output (s / m) a)
     to-is = ran .ends ∙ ap (walk (standing g W second m) (s % m)) (ok .first-holds .states (s / m) (in-first s h) .steps a ha .output-is)
 
@@ -149,70 +162,57 @@ module _ (g : Grid) (W : List ℕ) (first n second m base : ℕ) (ok : Composabl
               (ok .first-sound .output-below (s / m) a (in-first s h) ha),
         )
 
-    module _ (next : ℕ) (got : Got g X (first + s / m) a 0 next) where
+    module _ (next : ℕ) (got : Got g X (first + s / m) a NEXT next) where
       next-is : next ≡ standing g W first n .next (s / m) a
       next-is =
           got .is
-          ∙ ran .wrote .kept .same (first + s / m) a 0 (omega arith) (omega (arith, ok .room)) (λ p. omega (arith, p .0, ok .below, pair-first s h))
+          ∙ ran .wrote .kept .same (first + s / m) a NEXT (omega arith) (omega (arith, ok .room)) (λ p. omega (arith, p .0, ok .below, pair-first s h))
           ∙ ok .first-holds .states (s / m) (in-first s h) .steps a ha .next-is
 
       next-below : next < n
       next-below = omega (arith, next-is, length-at g W first n, ok .first-sound .next-below (s / m) a (in-first s h) ha)
 
       -- the number of the next pair is small
-      pub next-small : (next * m < n * m) × (next * m + to < n * m) × (n * m < 65536)
+      pub next-small : (next * m < n * m) × (next * m + to < n * m) × (n * m < 0x10000)
       next-small = (
         omega (arith, pair-below next 0 next-below some),
         pair-below next to next-below to-below,
-        omega (arith, ok .above, ok .second-holds .room, ok .sized .rows-small),
+        ok .small,
       )
 
       pair-is : next * m + to ≡ product (standing g W first n) (standing g W second m) .next s a
       pair-is =
           ap₂ (λ (x y : ℕ). x * m + y) next-is to-is ∙ pair-next (standing g W first n) (standing g W second m) m s a (length-at g W second m)
 
-      output-is : word g X (base + i) a 1 ≡ product (standing g W first n) (standing g W second m) .output s a
+      output-is : word g X (base + i) a OUTPUT ≡ product (standing g W first n) (standing g W second m) .output s a
       output-is =
           ran .wrote .here
           ∙ ap (outputs (standing g W second m) (s % m)) (ok .first-holds .states (s / m) (in-first s h) .steps a ha .output-is)
           ∙ pair-output (standing g W first n) (standing g W second m) m s a (length-at g W second m)
 
-      output-inside : 1 + at g X (base + i) a 1 < g .depth
+      output-inside : OUTPUT + at g X (base + i) a OUTPUT < g .depth
       output-inside =
-          omega (arith, word-length g X (base + i) a 1, ap length output-is, roomy-product .outputs s a (omega (arith, count-product)) ha)
+          omega (arith, word-length g X (base + i) a OUTPUT, ap length output-is, roomy-product .outputs s a (omega (arith, count-product)) ha)
 
-      -- the run leaves the notes of pairs
-      module _ (len : ℕ) (pairs : Pairs g W base (n * m) len) where
+      -- the run leaves the list
+      module _ (len : ℕ) (list : Worklist g W base (n * m) len) where
         run-grown : Grown (Step-notes g base (n * m) i a) g W X base (n * m) len len
         run-grown =
-            grown-wider g base (n * m) (Step-notes g base (n * m) i a) (Cell (base + i) a 1) W X len len
-            (grown-by g base (n * m) (Cell (base + i) a 1) W X len (room .deep) pairs (ran .wrote .kept) (λ r e he p. omega (arith, p .1)))
+            grown-wider g base (n * m) (Step-notes g base (n * m) i a) (Cell (base + i) a OUTPUT) W X len len
+            (grown-by g base (n * m) (Cell (base + i) a OUTPUT) W X len list (ran .wrote .kept) (λ j e lo hi p. omega (arith, p .1)))
             (λ r c e p. inl (p .0, p .1, omega arith))
 
-        pub run-pairs : Pairs g X base (n * m) len
-        run-pairs = run-grown .pairs
-
-        pub run-room : Room g X base (n * m)
-        run-room = record { sized = sized-kept g W X (ok .sized) (ran .wrote .kept .long); inside = room .inside; deep = room .deep }
+        pub run-list : Worklist g X base (n * m) len
+        run-list = run-grown .list
 
         -- the pair of the next states has got a state
         module _ (Y : List ℕ) (more : ℕ) (entered : Entered g X Y base (n * m) len (next * m + to) more) (state : ℕ)
-            (mark : Got g Y (base + (next * m + to)) (g .tags) 1 state) where
+            (placed : Place g Y base more (next * m + to) state) where
           enter-grown : Grown (Step-notes g base (n * m) i a) g X Y base (n * m) len more
           enter-grown =
-              grown-wider g base (n * m) (Step-notes g base (n * m) i a) (Spare g base (base + n * m) 0 2) X Y len more (entered .grown) (λ r c e p. inr p)
+              grown-wider g base (n * m) (Step-notes g base (n * m) i a) (List-notes g base (n * m)) X Y len more (entered .grown) (λ r c e p. inr p)
 
-          has : (markOf g Y base (next * m + to) ≤ more) × (pairOf g Y base (markOf g Y base (next * m + to) - 1) ≡ next * m + to)
-          has = entered .grown .pairs .marked (next * m + to) (next-small .1) (entered .here)
-
-          pub state-some : 0 < state
-          state-some = by (ℕ-discrete state 0)
-            where
-              by : Dec (state ≡ 0) → 0 < state
-              by (yes e) = absurd (entered .here (sym (mark .is) ∙ e))
-              by (no d) = omega (arith, nonzero state d)
-
-          pub step-done : (Z : List ℕ) → Put g Y Z (base + i) a 0 (state - 1)
+          pub step-done : (Z : List ℕ) → Put g Y Z (base + i) a NEXT state
               → Step-paired g W Z base (n * m) len i s (product (standing g W first n) (standing g W second m)) a more
           step-done Z p =
               record {
@@ -222,36 +222,36 @@ module _ (g : Grid) (W : List ℕ) (first n second m base : ℕ) (ok : Composabl
                 step =
                     record {
                       inside = omega (arith, size, output-inside);
-                      next-below = omega (arith, p .here, state-some, mark .is, has .0);
-                      pair-is = ap (pairOf g Z base) (p .here) ∙ same ∙ ap (λ (j : ℕ). pairOf g Y base (j - 1)) (mark .is) ∙ has .1 ∙ pair-is;
+                      next-below = omega (arith, p .here, placed .below);
+                      pair-is = ap (memberOf g Z base) (p .here) ∙ same ∙ placed .is ∙ pair-is;
                       output-is =
-                          word-kept g (Entry (base + i) a 0) Y Z (p .kept) (base + i) a 1 (omega arith) (omega (arith, size-Y, output-inside)) (λ e l q. omega (arith, q .2))
-                          ∙ word-kept g (Spare g base (base + n * m) 0 2) X Y (entered .grown .kept) (base + i) a 1 (omega arith) output-inside (λ e l q. omega (arith, q .2))
+                          word-kept g (Entry (base + i) a NEXT) Y Z (p .kept) (base + i) a OUTPUT (omega arith) (omega (arith, size-Y, output-inside)) (λ e l q. omega (arith, q .2))
+                          ∙ word-kept g (List-notes g base (n * m)) X Y (entered .grown .kept) (base + i) a OUTPUT (omega arith) output-inside (λ e l q. omega (arith, q .2))
                           ∙ output-is;
                     };
               }
             where
               put-grown : Grown (Step-notes g base (n * m) i a) g Y Z base (n * m) more more
               put-grown =
-                  grown-wider g base (n * m) (Step-notes g base (n * m) i a) (Entry (base + i) a 0) Y Z more more
-                  (grown-by g base (n * m) (Entry (base + i) a 0) Y Z more (room .deep) (entered .grown .pairs) (p .kept) (λ r e he q. omega (arith, q .1)))
+                  grown-wider g base (n * m) (Step-notes g base (n * m) i a) (Entry (base + i) a NEXT) Y Z more more
+                  (grown-by g base (n * m) (Entry (base + i) a NEXT) Y Z more (entered .grown .list) (p .kept) (λ j e lo hi q. omega (arith, q .1)))
                   (λ r c e q. inl (q .0, q .1, omega arith))
 
-              same : pairOf g Z base (state - 1) ≡ pairOf g Y base (state - 1)
-              same = p .kept .same (base + (state - 1)) (g .tags) 0 (omega arith) (omega (arith, room .deep)) (λ q. omega (arith, q .1))
+              same : memberOf g Z base state ≡ memberOf g Y base state
+              same = p .kept .same (base + state) (g .tags) MEMBER (omega arith) (omega (arith, slots .deep)) (λ q. omega (arith, q .1))
 
-              size-Y : at g Y (base + i) a 1 ≡ at g X (base + i) a 1
-              size-Y = entered .grown .kept .same (base + i) a 1 (omega arith) (omega (arith, room .deep)) (λ q. omega (arith, q .2))
+              size-Y : at g Y (base + i) a OUTPUT ≡ at g X (base + i) a OUTPUT
+              size-Y = entered .grown .kept .same (base + i) a OUTPUT (omega arith) (omega (arith, slots .deep)) (λ q. omega (arith, q .2))
 
-              size : at g Z (base + i) a 1 ≡ at g X (base + i) a 1
-              size = p .kept .same (base + i) a 1 (omega arith) (omega (arith, room .deep)) (λ q. omega (arith, q .2)) ∙ size-Y
+              size : at g Z (base + i) a OUTPUT ≡ at g X (base + i) a OUTPUT
+              size = p .kept .same (base + i) a OUTPUT (omega arith) (omega (arith, slots .deep)) (λ q. omega (arith, q .2)) ∙ size-Y
 
   module _ (i s : ℕ) (hi : i < n * m) (h : s < n * m) (X : List ℕ) (to : ℕ)
-      (ran : Ran g W X second m (s % m) (first + s / m) (g .tags) 7 (base + i) (g .tags) 7 [] to) where
+      (ran : Ran g W X second m (s % m) (first + s / m) (g .tags) FINAL (base + i) (g .tags) FINAL [] to) where
     w : List ℕ
     w = standing g W first n .final (s / m)
 
-    word-is : word g W (first + s / m) (g .tags) 7 ≡ standing g W first n .final (s / m)
+    word-is : word g W (first + s / m) (g .tags) FINAL ≡ standing g W first n .final (s / m)
     word-is = ok .first-holds .states (s / m) (in-first s h) .final-is
 
     end-is : to ≡ walk (standing g W second m) (s % m) (standing g W first n .final (s / m))
@@ -270,19 +270,19 @@ module _ (g : Grid) (W : List ℕ) (first n second m base : ℕ) (ok : Composabl
     -- the second's rows stay
     second-on : Holds g X second (tableAt g W second m)
     second-on =
-        holds-kept g (Cell (base + i) (g .tags) 7) W X (ran .wrote .kept) second (tableAt g W second m) (ok .second-holds)
+        holds-kept g (Cell (base + i) (g .tags) FINAL) W X (ran .wrote .kept) second (tableAt g W second m) (ok .second-holds)
         (λ p b e hp hb i. omega (arith, i .0, ok .above)) (λ p e hp he i. omega (arith, i .0, ok .above))
 
     in-table : to < length (tableAt g W second m)
     in-table = omega (arith, end-below, length-at g W second m)
 
-    last-is : word g X (second + to) (g .tags) 7 ≡ standing g W second m .final to
+    last-is : word g X (second + to) (g .tags) FINAL ≡ standing g W second m .final to
     last-is = second-on .states to in-table .final-is
 
-    size : at g X (second + to) (g .tags) 7 ≡ length (standing g W second m .final to)
-    size = sym (word-length g X (second + to) (g .tags) 7) ∙ ap length last-is
+    size : at g X (second + to) (g .tags) FINAL ≡ length (standing g W second m .final to)
+    size = sym (word-length g X (second + to) (g .tags) FINAL) ∙ ap length last-is
 
-    both : outputs (standing g W second m) (s % m) (word g W (first + s / m) (g .tags) 7) ++ word g X (second + to) (g .tags) 7
+    both : outputs (standing g W second m) (s % m) (word g W (first + s / m) (g .tags) FINAL) ++ word g X (second + to) (g .tags) FINAL
         ≡ product (standing g W first n) (standing g W second m) .final s
     both =
         let R = standing g W second m in
@@ -292,7 +292,7 @@ module _ (g : Grid) (W : List ℕ) (first n second m base : ℕ) (ok : Composabl
         ∙ ap (puts R (s % m)) (append-nil v)
         ∙ pair-final (standing g W first n) R m s 0 (length-at g W second m)
 
-    pub last-inner : Inner g X (second + to) (g .tags) 7
+    pub last-inner : Inner g X (second + to) (g .tags) FINAL
     last-inner =
         record {
           row = omega (arith, ok .second-holds .room, in-table);
@@ -300,20 +300,20 @@ module _ (g : Grid) (W : List ℕ) (first n second m base : ℕ) (ok : Composabl
           inside = omega (arith, size, ok .second-holds .roomy .finals to in-table);
         }
 
-    pub last-room : 7 + at g X (base + i) (g .tags) 7 + at g X (second + to) (g .tags) 7 < g .depth
+    pub last-room : FINAL + at g X (base + i) (g .tags) FINAL + at g X (second + to) (g .tags) FINAL < g .depth
     last-room =
         omega (
           arith,
           ran .wrote .size,
-          word-length g X (second + to) (g .tags) 7,
+          word-length g X (second + to) (g .tags) FINAL,
           ap length both,
-          length-append (outputs (standing g W second m) (s % m) (word g W (first + s / m) (g .tags) 7)) (word g X (second + to) (g .tags) 7),
+          length-append (outputs (standing g W second m) (s % m) (word g W (first + s / m) (g .tags) FINAL)) (word g X (second + to) (g .tags) FINAL),
           roomy-product .finals s (omega (arith, count-product)),
         )
 
-    pub final-done : (Y : List ℕ) → Written g X Y (base + i) (g .tags) 7 (word g X (base + i) (g .tags) 7 ++ word g X (second + to) (g .tags) 7)
-        → Written g W Y (base + i) (g .tags) 7 (product (standing g W first n) (standing g W second m) .final s)
-    final-done Y wrote = written-is g W Y (base + i) (g .tags) 7 _ _ both (written-more g W X (base + i) (g .tags) 7 Y _ _ (ran .wrote) wrote)
+    pub final-done : (Y : List ℕ) → Written g X Y (base + i) (g .tags) FINAL (word g X (base + i) (g .tags) FINAL ++ word g X (second + to) (g .tags) FINAL)
+        → Written g W Y (base + i) (g .tags) FINAL (product (standing g W first n) (standing g W second m) .final s)
+    final-done Y wrote = written-is g W Y (base + i) (g .tags) FINAL _ _ both (written-more g W X (base + i) (g .tags) FINAL Y _ _ (ran .wrote) wrote)
 
   -- a row and the notes of pairs are between the two
   pub notes-inside : (X : List ℕ) (i : ℕ) → i < n * m → Kept g W X (Row-notes g base (n * m) i) → Kept g W X (In-rows base (base + n * m))
@@ -323,16 +323,8 @@ module _ (g : Grid) (W : List ℕ) (first n second m base : ℕ) (ok : Composabl
       wider r c e (inl p) = (omega (arith, p .0), omega (arith, p .1))
       wider r c e (inr p) = (p .0, p .1)
 
-  pub spare-inside : (X : List ℕ) → Kept g W X (Spare g base (base + n * m) 0 2) → Kept g W X (In-rows base (base + n * m))
-  spare-inside X kept = kept-wider g (In-rows base (base + n * m)) (Spare g base (base + n * m) 0 2) W X kept (λ r c e p. (p .0, p .1))
-
-  pub pairs-some : 0 < n * m
-  pairs-some =
-      omega (
-        arith,
-        sound-product (g .tags) (standing g W first n) (standing g W second m) (ok .first-sound) (ok .second-sound) .some,
-        count-product,
-      )
+  pub spare-inside : (X : List ℕ) → Kept g W X (List-notes g base (n * m)) → Kept g W X (In-rows base (base + n * m))
+  spare-inside X kept = kept-wider g (In-rows base (base + n * m)) (List-notes g base (n * m)) W X kept (λ r c e p. (p .0, p .1))
 
   -- writing between the two leaves both
   module _ (X : List ℕ) (kept : Kept g W X (In-rows base (base + n * m))) where
@@ -367,6 +359,7 @@ module _ (g : Grid) (W : List ℕ) (first n second m base : ℕ) (ok : Composabl
           room = ok .room;
           below = ok .below;
           above = ok .above;
+          small = ok .small;
         }
 
   -- a transducer of the reached pairs
@@ -377,17 +370,17 @@ module _ (g : Grid) (W : List ℕ) (first n second m base : ℕ) (ok : Composabl
     abbrev T : Shape
     T = held g X base len
 
-    state : (q : ℕ) → q < len → State g X base len q (pairOf g X base q) S
+    state : (q : ℕ) → q < len → State g X base len q (memberOf g X base q) S
     state q h = m' .states q (omega arith)
 
-    low : (q : ℕ) → q < len → pairOf g X base q < S .count
-    low q h = omega (arith, m' .pairs .below q h, count-product)
+    low : (q : ℕ) → q < len → memberOf g X base q < S .count
+    low q h = omega (arith, m' .list .below q h, count-product)
 
-    covers : Covers (g .tags) S T (pairOf g X base)
+    covers : Covers (g .tags) S T (memberOf g X base)
     covers =
         record {
-          some = m' .pairs .some;
-          start = m' .pairs .start;
+          some = m' .list .some;
+          start = m' .list .start;
           below = low;
           inside = λ q a h ha. state q h .steps a ha .next-below;
           nexts = λ q a h ha. state q h .steps a ha .pair-is;
@@ -399,13 +392,13 @@ module _ (g : Grid) (W : List ℕ) (first n second m base : ℕ) (ok : Composabl
     S-sound = sound-product (g .tags) (standing g W first n) (standing g W second m) (ok .first-sound) (ok .second-sound)
 
     T-sound : Sound (g .tags) T
-    T-sound = covers-sound (g .tags) S T (pairOf g X base) covers S-sound
+    T-sound = covers-sound (g .tags) S T (memberOf g X base) covers S-sound
 
     roomy : Roomy g T
     roomy =
         record {
-          outputs = λ q a h ha. omega (arith, ap length (covers .outputs q a h ha), roomy-product .outputs (pairOf g X base q) a (low q h) ha);
-          finals = λ q h. omega (arith, ap length (covers .finals q h), roomy-product .finals (pairOf g X base q) (low q h));
+          outputs = λ q a h ha. omega (arith, ap length (covers .outputs q a h ha), roomy-product .outputs (memberOf g X base q) a (low q h) ha);
+          finals = λ q h. omega (arith, ap length (covers .finals q h), roomy-product .finals (memberOf g X base q) (low q h));
         }
 
     pub composed : Composed g X base len (tableAt g W first n) (tableAt g W second m)
@@ -413,13 +406,13 @@ module _ (g : Grid) (W : List ℕ) (first n second m base : ℕ) (ok : Composabl
         record {
           table = table (g .tags) T;
           long = length-table (g .tags) T;
-          few = omega (arith, m' .pairs .low, count-product);
+          few = omega (arith, m' .list .low, count-product);
           holds =
-              holds-table g X base T (omega (arith, m' .pairs .low, ok .above, ok .second-holds .room)) (covers .inside) roomy
+              holds-table g X base T (omega (arith, m' .list .low, ok .above, ok .second-holds .room)) (covers .inside) roomy
               (λ q h. record { steps = λ a ha. record { next-is = refl; output-is = refl }; final-is = refl });
           doing = λ d e f h a b.
-              doing-table (g .tags) T T-sound (d + e) (λ w. h (f w)) (covers-held (g .tags) S T (pairOf g X base) covers (d + e) (held-product d e f h a b))
-              (λ x hx. covers-puts (g .tags) S T (pairOf g X base) covers x hx 0 (m' .pairs .some) ∙ ap (λ (s : ℕ). puts S s x) (m' .pairs .start) ∙ does-product d e f h a b x hx);
+              doing-table (g .tags) T T-sound (d + e) (λ w. h (f w)) (covers-held (g .tags) S T (memberOf g X base) covers (d + e) (held-product d e f h a b))
+              (λ x hx. covers-puts (g .tags) S T (memberOf g X base) covers x hx 0 (m' .list .some) ∙ ap (λ (s : ℕ). puts S s x) (m' .list .start) ∙ does-product d e f h a b x hx);
         }
       where
         held-product : (d e : ℕ) (f h : List ℕ → List ℕ) → Doing (g .tags) d f (tableAt g W first n) → Doing (g .tags) e h (tableAt g W second m) → Held (d + e) S

@@ -1,21 +1,22 @@
 -- A run over a word, tag by tag.
-use Prim.Native.Nat.{ℕ, zero, suc, _+_, _≤_, _<_}
+use Prim.Native.Nat.{ℕ, suc, _+_, _≤_, _<_}
 use native.Mathlib.Omega.{arith}
 use native.Mathlib.Numerals.{add-one}
-use mathlib.Core.Path.{_≡_, refl, sym, ap, ap₂, _∙_, subst}
-use mathlib.Core.List.{List, [], _∷_, _++_, append-assoc, append-nil}
+use mathlib.Core.Path.{_≡_, refl, sym, ap, ap₂, _∙_}
+use mathlib.Core.List.{List, [], _++_, append-assoc, append-nil}
 use lib.ListN.{length, getD, drop, length-append, drop-of-length-le}
 use lib.Seq.{drop-cons}
-use Rattle.words.specs.Word.{Below}
 use Rattle.words.proofs.Word.{below-at}
 use Rattle.transducers.specs.Transducer.{Shape}
 use Rattle.transducers.specs.Table.{Table, shape}
 use Rattle.transducers.specs.Run.{walk, outputs}
 use Rattle.workspace.specs.declared.Grid.{Grid}
-use Rattle.workspace.specs.Cells.{at, word, Sized, Inner, Kept, Cell, Got, Written}
+use Rattle.workspace.specs.Entries.{NEXT, OUTPUT}
+use Rattle.workspace.specs.Cells.{at, word, Inner, Kept, Cell, Got, Written}
 use Rattle.workspace.specs.Holds.{StepAt, Holds, tableAt, standing}
-use Rattle.workspace.proofs.Cells.{kept-none, kept-then, word-length, word-kept, tag-kept, sized-kept}
-use Rattle.workspace.proofs.Holds.{holds-kept, length-at, table-at, holds-at}
+use Rattle.workspace.proofs.Regions.{kept-none, kept-then, sized-kept}
+use Rattle.workspace.proofs.Words.{word-length, word-kept, tag-kept}
+use Rattle.workspace.proofs.Holds.{holds-kept, length-at, table-at}
 use Rattle.compose.specs.Runs.{Runs, Ran}
 
 -- i tags were read, and the state was come to
@@ -31,9 +32,9 @@ pub record Running (g : Grid) (W X : List ℕ) (base m q r c s r2 c2 s2 i state 
 pub record Reading (g : Grid) (W X : List ℕ) (base m r c s r2 c2 s2 i state tag : ℕ) : Type 0 where
   pub is : tag ≡ getD (word g W r c s) i 0
   pub below : tag < g .tags
-  pub from : Inner g X (base + state) tag 1
+  pub from : Inner g X (base + state) tag OUTPUT
   pub step : StepAt g X (base + state) tag (standing g W base m .next state tag) (standing g W base m .output state tag)
-  pub room : s2 + at g X r2 c2 s2 + at g X (base + state) tag 1 < g .depth
+  pub room : s2 + at g X r2 c2 s2 + at g X (base + state) tag OUTPUT < g .depth
   pub other : (base + state ≡ r2) → (tag ≡ c2) → ⊥
 
 module _ (g : Grid) (W : List ℕ) (base m q r c s r2 c2 s2 : ℕ) (ok : Runs g W base m q r c s r2 c2 (s2 + at g W r2 c2 s2)) where
@@ -79,8 +80,8 @@ module _ (g : Grid) (W : List ℕ) (base m q r c s r2 c2 s2 : ℕ) (ok : Runs g 
         step : StepAt g X (base + state) tag (standing g W base m .next state tag) (standing g W base m .output state tag)
         step = holds-on X (run .kept) .states state in-table .steps tag tag-below
 
-        size : at g X (base + state) tag 1 ≡ length (standing g W base m .output state tag)
-        size = sym (word-length g X (base + state) tag 1) ∙ ap length (step .output-is)
+        size : at g X (base + state) tag OUTPUT ≡ length (standing g W base m .output state tag)
+        size = sym (word-length g X (base + state) tag OUTPUT) ∙ ap length (step .output-is)
 
         fits : length (standing g W base m .output state tag) + 2 ≤ g .depth
         fits = ok .holds .roomy .outputs state tag in-table tag-below
@@ -101,7 +102,7 @@ module _ (g : Grid) (W : List ℕ) (base m q r c s r2 c2 s2 : ℕ) (ok : Runs g 
             )
 
     pub running-next : (Y : List ℕ) (next : ℕ) → Reading g W X base m r c s r2 c2 s2 i state tag
-        → Written g X Y r2 c2 s2 (word g X r2 c2 s2 ++ word g X (base + state) tag 1) → Got g Y (base + state) tag 0 next
+        → Written g X Y r2 c2 s2 (word g X r2 c2 s2 ++ word g X (base + state) tag OUTPUT) → Got g Y (base + state) tag NEXT next
         → Running g W Y base m q r c s r2 c2 s2 (i + 1) next
     running-next Y next read wrote got =
         record {
@@ -133,7 +134,7 @@ module _ (g : Grid) (W : List ℕ) (base m q r c s r2 c2 s2 : ℕ) (ok : Runs g 
         next-is : next ≡ R .next state tag
         next-is =
             got .is
-            ∙ wrote .kept .same (base + state) tag 0 (omega (arith, read .below)) (omega (arith, read .from .inside)) (λ p. omega (arith, p .0, ok .before))
+            ∙ wrote .kept .same (base + state) tag NEXT (omega (arith, read .below)) (omega (arith, read .from .inside)) (λ p. omega (arith, p .0, ok .before))
             ∙ read .step .next-is
 
         next-at : next ≡ R .next state (getD w i 0)

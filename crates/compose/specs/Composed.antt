@@ -10,8 +10,8 @@ use Rattle.workspace.specs.declared.Grid.{Grid}
 use Rattle.workspace.specs.Cells.{Sized}
 use Rattle.workspace.specs.Holds.{Holds, tableAt}
 
--- the first stands in n rows, the second in m rows, the rows from base between them are for the composition, and the cells have
--- room for what both hold
+-- the first stands in n rows, the second in m rows, the rows from base between them are for the composition, a pair can be noted, and the
+-- cells have room for what both hold
 pub record Composable (g : Grid) (W : List ℕ) (first n second m base : ℕ) : Type 0 where
   pub sized : Sized g W
   pub first-holds : Holds g W first (tableAt g W first n)
@@ -25,6 +25,7 @@ pub record Composable (g : Grid) (W : List ℕ) (first n second m base : ℕ) : 
   pub room : first-most + second-most + 8 ≤ g .depth
   pub below : first + n ≤ base
   pub above : base + n * m ≤ second
+  pub small : n * m < 0x10000
 
 -- the rows from base hold a table that does what u makes of what t does, with at most as many states as there are pairs
 pub record Composed (g : Grid) (X : List ℕ) (base count : ℕ) (t u : Table) : Type 0 where

@@ -1,14 +1,12 @@
 -- A transducer in the work slice runs over a word in a cell, and what it puts out goes to another cell.
-use Prim.Native.Nat.{ℕ, _+_, _≤_, _<_}
+use Prim.Native.Nat.{ℕ, _+_, _<_}
 use mathlib.Core.Path.{_≡_}
 use mathlib.Core.List.{List, _++_}
 use lib.ListN.{length}
 use Rattle.words.specs.Word.{Below}
-use Rattle.transducers.specs.Transducer.{Shape}
-use Rattle.transducers.specs.Table.{shape}
 use Rattle.transducers.specs.Run.{walk, outputs}
 use Rattle.workspace.specs.declared.Grid.{Grid}
-use Rattle.workspace.specs.Cells.{at, word, Sized, Inner, Written}
+use Rattle.workspace.specs.Cells.{word, Sized, Inner, Written}
 use Rattle.workspace.specs.Holds.{Holds, tableAt, standing}
 
 -- from its state q over the word at (r, c, s), to the cell (r2, c2), where there is room after so many entries

@@ -1,19 +1,23 @@
 // Composition: the result puts out what the second transducer makes of what the first puts out.
-// Time grows with the number of pairs that are reached, times the tags, times the lengths of the outputs.
-// The idea is the usual one for sequential transducers (Roche and Schabes; 002, section 2): run the second on each output of the first.
+// Time O(p k d) for p reached pairs of states, k tags and words of d tags; space is the p rows of the result, and notes in n m rows for
+// n and m states. From Roche and Schabes (002, section 2): run the second on each output of the first.
+use workspace::FINAL;
 use workspace::Grid;
+use workspace::NEXT;
+use workspace::OUTPUT;
 use workspace::append_word;
 use workspace::clear;
-use workspace::clear_notes;
 use workspace::get;
 use workspace::put;
 ghost use Prim.Native.Nat.{_+_, _*_, _/_, _%_, _<_};
 ghost use mathlib.Core.List.{[]};
 ghost use Rattle.transducers.specs.Compose.{product};
-ghost use Rattle.workspace.specs.Cells.{at, word, Kept, In-rows, Spare, Written};
+ghost use Rattle.workspace.specs.Entries.{FINAL};
+ghost use Rattle.workspace.specs.Cells.{at, word, Kept, In-rows, Written};
 ghost use Rattle.workspace.specs.Holds.{tableAt, standing};
+ghost use Rattle.worklist.specs.Worklist.{Worklist};
 ghost use Rattle.compose.specs.Runs.{Runs, Ran};
-ghost use Rattle.compose.specs.Pairs.{Pairs, Room, Entered, Step-paired, Steps-paired, Row-paired};
+ghost use Rattle.compose.specs.Pairs.{Step-paired, Steps-paired, Row-paired};
 ghost use Rattle.compose.specs.Composed.{Composable, Composed};
 
 // The transducer in m rows from `base` runs from its state q over the word at (r, c, s); what it puts out goes after the word at
@@ -39,8 +43,8 @@ fn run_word(
     let mut i = 0;
     while i < n {
         let tag = get(work, g, r, c, s + i + 1);
-        append_word(work, g, base + state, tag, 1, r2, c2, s2);
-        state = get(work, g, base + state, tag, 0);
+        append_word(work, g, base + state, tag, OUTPUT, r2, c2, s2);
+        state = get(work, g, base + state, tag, NEXT);
         i += 1;
     }
     state
@@ -66,33 +70,6 @@ fn run_into(
     run_word(work, g, base, m, q, r, c, s, r2, c2, s2)
 }
 
-// State 0, for the pair 0 of the first states.
-fn begin(work: &mut [u16], g: Grid, base: usize, total: usize)
-    requires { ⌜ Room g (now work) base total ⌝ }
-    requires { ⌜ 0 < total ⌝ }
-    ensures { λ _. ⌜ Kept g (now (work .entry)) (now (work .exit)) (Spare g base (base + total) 0 2) × Pairs g (now (work .exit)) base total 1 ⌝ }
-{
-    clear_notes(work, g, base, total, 1);
-    put(work, g, base, g.tags, 0, 0);
-    put(work, g, base, g.tags, 1, 1);
-}
-
-// The pair s gets the next state if it has none: the number of states then.
-fn enter(work: &mut [u16], g: Grid, base: usize, total: usize, len: usize, s: usize) -> usize
-    requires { ⌜ Room g (now work) base total ⌝ }
-    requires { ⌜ Pairs g (now work) base total len ⌝ }
-    requires { ⌜ s < total ⌝ }
-    ensures { λ to. ⌜ Entered g (now (work .entry)) (now (work .exit)) base total len s to ⌝ }
-{
-    let seen = get(work, g, base + s, g.tags, 1);
-    if seen != 0 {
-        return len;
-    }
-    put(work, g, base + len, g.tags, 0, s);
-    put(work, g, base + s, g.tags, 1, len + 1);
-    len + 1
-}
-
 // The step of the state i on the tag a, where i stands for the pair s = (q, r): the number of states then.
 fn pair_step(
     work: &mut [u16],
@@ -108,17 +85,30 @@ fn pair_step(
     a: usize,
 ) -> usize
     requires { ⌜ Composable g (now work) first n second m base ⌝ }
-    requires { ⌜ Pairs g (now work) base (n * m) len ⌝ }
+    requires { ⌜ Worklist g (now work) base (n * m) len ⌝ }
     requires { ⌜ (i < len) × (s < n * m) × (a < g .tags) ⌝ }
     ensures { λ to. ⌜ Step-paired g (now (work .entry)) (now (work .exit)) base (n * m) len i s (product (standing g (now (work .entry)) first n) (standing g (now (work .entry)) second m)) a to ⌝ }
 {
+    let total = n * m;
     let q = s / m;
-    let r = run_into(work, g, second, m, s % m, first + q, a, 1, base + i, a, 1);
-    let next = get(work, g, first + q, a, 0);
+    let r = run_into(
+        work,
+        g,
+        second,
+        m,
+        s % m,
+        first + q,
+        a,
+        OUTPUT,
+        base + i,
+        a,
+        OUTPUT,
+    );
+    let next = get(work, g, first + q, a, NEXT);
     let pair = next * m + r;
-    let to = enter(work, g, base, n * m, len, pair);
-    let state = get(work, g, base + pair, g.tags, 1);
-    put(work, g, base + i, a, 0, state - 1);
+    let to = worklist::enter(work, g, base, total, len, pair);
+    let state = worklist::place_of(work, g, base, total, to, pair);
+    put(work, g, base + i, a, NEXT, state);
     to
 }
 
@@ -135,7 +125,7 @@ fn pair_steps(
     s: usize,
 ) -> usize
     requires { ⌜ Composable g (now work) first n second m base ⌝ }
-    requires { ⌜ Pairs g (now work) base (n * m) len ⌝ }
+    requires { ⌜ Worklist g (now work) base (n * m) len ⌝ }
     requires { ⌜ (i < len) × (s < n * m) ⌝ }
     ensures { λ to. ⌜ Steps-paired g (now (work .entry)) (now (work .exit)) base (n * m) len i s (product (standing g (now (work .entry)) first n) (standing g (now (work .entry)) second m)) (g .tags) to ⌝ }
 {
@@ -162,7 +152,7 @@ fn pair_final(
 )
     requires { ⌜ Composable g (now work) first n second m base ⌝ }
     requires { ⌜ (i < n * m) × (s < n * m) ⌝ }
-    ensures { λ _. ⌜ Written g (now (work .entry)) (now (work .exit)) (base + i) (g .tags) 7 ((product (standing g (now (work .entry)) first n) (standing g (now (work .entry)) second m)) .final s) ⌝ }
+    ensures { λ _. ⌜ Written g (now (work .entry)) (now (work .exit)) (base + i) (g .tags) FINAL ((product (standing g (now (work .entry)) first n) (standing g (now (work .entry)) second m)) .final s) ⌝ }
 {
     let q = s / m;
     let to = run_into(
@@ -173,12 +163,12 @@ fn pair_final(
         s % m,
         first + q,
         g.tags,
-        7,
+        FINAL,
         base + i,
         g.tags,
-        7,
+        FINAL,
     );
-    append_word(work, g, second + to, g.tags, 7, base + i, g.tags, 7);
+    append_word(work, g, second + to, g.tags, FINAL, base + i, g.tags, FINAL);
 }
 
 // The row of the state i, which stands for the pair s: the number of states then.
@@ -195,7 +185,7 @@ fn pair_row(
     s: usize,
 ) -> usize
     requires { ⌜ Composable g (now work) first n second m base ⌝ }
-    requires { ⌜ Pairs g (now work) base (n * m) len ⌝ }
+    requires { ⌜ Worklist g (now work) base (n * m) len ⌝ }
     requires { ⌜ (i < len) × (s < n * m) ⌝ }
     ensures { λ to. ⌜ Row-paired g (now (work .entry)) (now (work .exit)) base (n * m) len i s (product (standing g (now (work .entry)) first n) (standing g (now (work .entry)) second m)) to ⌝ }
 {
@@ -218,11 +208,12 @@ pub fn compose(
     ensures composed { λ count. ⌜ Composed g (now (work .exit)) base count (tableAt g (now (work .entry)) first n) (tableAt g (now (work .entry)) second m) ⌝ }
     ensures kept { λ count. ⌜ Kept g (now (work .entry)) (now (work .exit)) (In-rows base (base + n * m)) ⌝ }
 {
-    begin(work, g, base, n * m);
+    let total = n * m;
+    worklist::begin(work, g, base, total);
     let mut len = 1;
     let mut i = 0;
     while i < len {
-        let s = get(work, g, base + i, g.tags, 0);
+        let s = worklist::member(work, g, base, total, len, i);
         len = pair_row(work, g, first, n, second, m, base, len, i, s);
         i += 1;
     }

@@ -12,8 +12,9 @@ use Rattle.transducers.specs.Tabulate.{tabulate}
 use Rattle.transducers.proofs.Tabulate.{length-tabulate}
 use Rattle.tables.specs.Bytes.{tagged, joined, stepBytes, rowBytes, encode}
 use Rattle.workspace.specs.declared.Grid.{Grid}
+use Rattle.workspace.specs.Entries.{OUTPUT, FINAL}
 use Rattle.workspace.specs.Cells.{at, word, Inner, In, Got}
-use Rattle.workspace.proofs.Cells.{word-length, word-at}
+use Rattle.workspace.proofs.Words.{word-length, word-at}
 use Rattle.encoder.specs.Encoding.{Wrote, stepIn, stepsIn, rowIn, rowsIn, Bytes}
 
 pub sets-more : (l : List ℕ) (i : ℕ) (xs ys : List ℕ) → sets l i (xs ++ ys) ≡ sets (sets l i xs) (i + length xs) ys
@@ -132,17 +133,17 @@ pub parts-measured : {A : Type 0} (bytes : A → List ℕ) (f : ℕ → A) (i to
     → total + n ≡ length (first-parts bytes f (i + 1))
 parts-measured bytes f i total n e h = omega (arith, ap length (parts-next bytes f i), length-append (first-parts bytes f i) (bytes (f i)))
 
-pub step-long : (g : Grid) (W : List ℕ) (r a n : ℕ) → n ≡ at g W r a 1 → 3 + 2 * n ≡ length (stepBytes (stepIn g W r a))
-step-long g W r a n e = omega (arith, tagged-length 0x34 (word g W r a 1), word-length g W r a 1)
+pub step-long : (g : Grid) (W : List ℕ) (r a n : ℕ) → n ≡ at g W r a OUTPUT → 3 + 2 * n ≡ length (stepBytes (stepIn g W r a))
+step-long g W r a n e = omega (arith, tagged-length 0x34 (word g W r a OUTPUT), word-length g W r a 1)
 
-pub row-long : (g : Grid) (W : List ℕ) (r n m : ℕ) → n ≡ at g W r (g .tags) 7 → m ≡ length (joined stepBytes (stepsIn g W r))
+pub row-long : (g : Grid) (W : List ℕ) (r n m : ℕ) → n ≡ at g W r (g .tags) FINAL → m ≡ length (joined stepBytes (stepsIn g W r))
     → 2 + 2 * n + m ≡ length (rowBytes (rowIn g W r))
 row-long g W r n m e h =
-    let final = tagged 0x32 (word g W r (g .tags) 7) in
+    let final = tagged 0x32 (word g W r (g .tags) FINAL) in
     omega (
       arith,
-      tagged-length 0x32 (word g W r (g .tags) 7),
-      word-length g W r (g .tags) 7,
+      tagged-length 0x32 (word g W r (g .tags) FINAL),
+      word-length g W r (g .tags) FINAL,
       length-append final (joined stepBytes (stepsIn g W r)),
     )
 

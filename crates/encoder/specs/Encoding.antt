@@ -8,6 +8,7 @@ use Rattle.words.specs.Word.{Below}
 use Rattle.transducers.specs.Table.{Step, Row}
 use Rattle.transducers.specs.Tabulate.{tabulate}
 use Rattle.workspace.specs.declared.Grid.{Grid}
+use Rattle.workspace.specs.Entries.{NEXT, OUTPUT, FINAL}
 use Rattle.workspace.specs.Cells.{at, word, Sized, Inner}
 
 -- the bytes have been written from a place on
@@ -16,13 +17,13 @@ pub record Wrote (before after : List ℕ) (from : ℕ) (bytes : List ℕ) (to :
   pub end : to ≡ from + length bytes
 
 abbrev pub stepIn : Grid → List ℕ → ℕ → ℕ → Step
-stepIn g W r a = record { next = at g W r a 0; output = word g W r a 1 }
+stepIn g W r a = record { next = at g W r a NEXT; output = word g W r a OUTPUT }
 
 abbrev pub stepsIn : Grid → List ℕ → ℕ → List Step
 stepsIn g W r = tabulate (g .tags) 0 (stepIn g W r)
 
 abbrev pub rowIn : Grid → List ℕ → ℕ → Row
-rowIn g W r = record { final = word g W r (g .tags) 7; steps = stepsIn g W r }
+rowIn g W r = record { final = word g W r (g .tags) FINAL; steps = stepsIn g W r }
 
 -- a word lies within its cell, and its tags are bytes
 pub record Bytes (g : Grid) (W : List ℕ) (r c s : ℕ) : Type 0 where
@@ -32,9 +33,9 @@ pub record Bytes (g : Grid) (W : List ℕ) (r c s : ℕ) : Type 0 where
 -- a row that can be written as bytes
 pub record Encodable (g : Grid) (W : List ℕ) (r : ℕ) : Type 0 where
   pub sized : Sized g W
-  pub outputs : (a : ℕ) → a < g .tags → Bytes g W r a 1
-  pub final : Bytes g W r (g .tags) 7
-  pub few : at g W r (g .tags) 7 < 0x100
+  pub outputs : (a : ℕ) → a < g .tags → Bytes g W r a OUTPUT
+  pub final : Bytes g W r (g .tags) FINAL
+  pub few : at g W r (g .tags) FINAL < 0x100
 
 -- the rows from a base, as a table
 abbrev pub rowsIn : Grid → List ℕ → ℕ → ℕ → List Row

@@ -1,12 +1,15 @@
 // The bytes of a table that stands in the work slice (document 01, "Bytes of a table").
-// Time grows with the number of bytes.
+// Time O(b) for b bytes.
+use workspace::FINAL;
 use workspace::Grid;
+use workspace::NEXT;
+use workspace::OUTPUT;
 use workspace::get;
 ghost use mathlib.Core.Path.{_≡_};
 ghost use Prim.Native.Nat.{_+_, _*_, _≤_, _<_};
 ghost use lib.ListN.{length};
 ghost use Rattle.tables.specs.Bytes.{tagged, joined, stepBytes, rowBytes, encode};
-ghost use Rattle.workspace.specs.Cells.{at, word, Sized};
+ghost use Rattle.workspace.specs.Cells.{word, Sized};
 ghost use Rattle.encoder.specs.Encoding.{Wrote, stepIn, stepsIn, rowIn, rowsIn, Bytes, Encodable, Writable, Measured};
 
 fn byte(n: usize) -> u8
@@ -51,11 +54,11 @@ fn write_step(work: &[u16], g: Grid, r: usize, a: usize, out: &mut [u8], from: u
     requires { ⌜ (a < g .tags) × (from + length (stepBytes (stepIn g (now work) r a)) ≤ length (now out)) ⌝ }
     ensures { λ to. ⌜ Wrote (now (out .entry)) (now (out .exit)) from (stepBytes (stepIn g (now (work .entry)) r a)) to ⌝ }
 {
-    let next = get(work, g, r, a, 0);
+    let next = get(work, g, r, a, NEXT);
     out[from] = 0x33;
     out[from + 1] = byte(next / 0x100);
     out[from + 2] = byte(next % 0x100);
-    write_word(work, g, r, a, 1, 0x34, out, from + 3)
+    write_word(work, g, r, a, OUTPUT, 0x34, out, from + 3)
 }
 
 fn write_steps(work: &[u16], g: Grid, r: usize, out: &mut [u8], from: usize) -> usize
@@ -80,10 +83,10 @@ fn write_row(work: &[u16], g: Grid, r: usize, out: &mut [u8], from: usize) -> us
     ensures { λ to. ⌜ Wrote (now (out .entry)) (now (out .exit)) from (rowBytes (rowIn g (now (work .entry)) r)) to ⌝ }
 {
     let tags = g.tags;
-    let n = get(work, g, r, tags, 7);
+    let n = get(work, g, r, tags, FINAL);
     out[from] = 0x31;
     out[from + 1] = byte(n);
-    let to = write_word(work, g, r, tags, 7, 0x32, out, from + 2);
+    let to = write_word(work, g, r, tags, FINAL, 0x32, out, from + 2);
     write_steps(work, g, r, out, to)
 }
 
@@ -126,7 +129,7 @@ fn measure_steps(work: &[u16], g: Grid, r: usize) -> usize
     let mut total = 0;
     let mut a = 0;
     while a < tags {
-        total += 3 + 2 * get(work, g, r, a, 1);
+        total += 3 + 2 * get(work, g, r, a, OUTPUT);
         a += 1;
     }
     total
@@ -138,7 +141,7 @@ fn measure_row(work: &[u16], g: Grid, r: usize) -> usize
     ensures { λ n. ⌜ Measured (rowBytes (rowIn g (now (work .entry)) r)) 0x3000000 n ⌝ }
 {
     let tags = g.tags;
-    let n = get(work, g, r, tags, 7);
+    let n = get(work, g, r, tags, FINAL);
     2 + 2 * n + measure_steps(work, g, r)
 }
 

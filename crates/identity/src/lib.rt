@@ -1,6 +1,9 @@
 // The table of no rules in the work slice: one state that puts out what it reads.
-// Time grows with the tags.
+// Time O(k) for k tags.
+use workspace::FINAL;
 use workspace::Grid;
+use workspace::NEXT;
+use workspace::OUTPUT;
 use workspace::clear;
 use workspace::push;
 use workspace::put;
@@ -16,9 +19,9 @@ fn write_step(work: &mut [u16], g: Grid, a: usize)
     requires { ⌜ (0 < g .rows) × (8 ≤ g .depth) × (a < g .tags) ⌝ }
     ensures { λ _. ⌜ Stepped g (now (work .entry)) (now (work .exit)) 0 a 0 (a ∷ []) ⌝ }
 {
-    put(work, g, 0, a, 0, 0);
-    clear(work, g, 0, a, 1);
-    push(work, g, 0, a, 1, a);
+    put(work, g, 0, a, NEXT, 0);
+    clear(work, g, 0, a, OUTPUT);
+    push(work, g, 0, a, OUTPUT, a);
 }
 
 fn write_steps(work: &mut [u16], g: Grid)
@@ -42,5 +45,5 @@ pub fn write_identity(work: &mut [u16], g: Grid)
     ensures kept { λ _. ⌜ Kept g (now (work .entry)) (now (work .exit)) (In-rows 0 1) ⌝ }
 {
     write_steps(work, g);
-    clear(work, g, 0, g.tags, 7);
+    clear(work, g, 0, g.tags, FINAL);
 }

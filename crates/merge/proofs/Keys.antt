@@ -6,12 +6,11 @@ use mathlib.Core.Bool.{Bool, true, false}
 use mathlib.Core.List.{List}
 use Rattle.words.proofs.Word.{below-suc}
 use mathlib.Core.Logic.{_⊎_, inl, inr}
-use Rattle.transducers.specs.Table.{Table, shape}
-use Rattle.transducers.specs.Canonical.{Early}
 use Rattle.workspace.specs.declared.Grid.{Grid}
-use Rattle.workspace.specs.Cells.{at, word, Kept, Spare, Decides}
-use Rattle.workspace.specs.Holds.{Ready, tableAt, standing}
-use Rattle.workspace.proofs.Views.{same-table, ready-kept, final-is, output-is, next-is}
+use Rattle.workspace.specs.Entries.{FINAL, CLASS}
+use Rattle.workspace.specs.Cells.{at, Kept, Spare, Decides}
+use Rattle.workspace.specs.Holds.{Ready, standing}
+use Rattle.workspace.proofs.Views.{same-table, ready-kept}
 use Rattle.merge.specs.Classes.{classOf, Words, Nexts, Key, Part}
 
 module _ (g : Grid) (W : List ℕ) (base n : ℕ) where
@@ -34,9 +33,9 @@ module _ (g : Grid) (W : List ℕ) (base n : ℕ) where
   key-trans false p q r k l = λ a ha. k a ha ∙ l a ha
 
 -- notes in the entries from lo to hi, after the class, leave keys
-module _ (g : Grid) (W : List ℕ) (base n : ℕ) (ok : Ready g W base n) (X : List ℕ) (lo hi : ℕ) (from : 1 < lo) (to : hi ≤ 7) (kept : Kept g W X (Spare g base (base + n) lo hi)) where
+module _ (g : Grid) (W : List ℕ) (base n : ℕ) (ok : Ready g W base n) (X : List ℕ) (lo hi : ℕ) (from : 1 < lo) (to : hi ≤ FINAL) (kept : Kept g W X (Spare g base (base + n) lo hi)) where
   pub class-same : (q : ℕ) → classOf g X base q ≡ classOf g W base q
-  class-same q = kept .same (base + q) (g .tags) 1 (omega arith) (omega (arith, ok .room)) (λ i. omega (arith, i .3, from))
+  class-same q = kept .same (base + q) (g .tags) CLASS (omega arith) (omega (arith, ok .room)) (λ i. omega (arith, i .3, from))
 
   pub key-on : (first : Bool) (p q : ℕ) → Key g W base n first p q → Key g X base n first p q
   key-on true p q k = rw (same-table g W base n ok X lo hi to kept) k

@@ -8,12 +8,13 @@ use mathlib.Core.Bool.{Bool, true, false}
 use mathlib.Core.List.{List}
 use Rattle.words.proofs.Word.{below-suc}
 use Rattle.workspace.specs.declared.Grid.{Grid}
-use Rattle.workspace.specs.Cells.{at, Kept, Entry, Spare, Put, Got, Decides}
-use Rattle.workspace.specs.Holds.{Ready, tableAt, standing}
-use Rattle.workspace.proofs.Cells.{kept-none, kept-then, kept-wider}
+use Rattle.workspace.specs.Entries.{NEW, LINK}
+use Rattle.workspace.specs.Cells.{at, Kept, Entry, Spare, Put}
+use Rattle.workspace.specs.Holds.{Ready}
+use Rattle.workspace.proofs.Regions.{kept-none, kept-then, kept-wider}
 use Rattle.workspace.proofs.Views.{ready-kept}
 use Rattle.merge.specs.declared.Walked.{Walked}
-use Rattle.merge.specs.Classes.{classOf, newOf, linkOf, Words, Nexts, Key, Part, Name, Gap, Follows, Parted, Found, Placed, Named}
+use Rattle.merge.specs.Classes.{classOf, newOf, linkOf, Key, Part, Name, Gap, Follows, Parted, Found, Placed, Named}
 use Rattle.merge.proofs.Keys.{key-refl, key-sym, class-same, key-on, key-back, part-on}
 
 -- ---- the walk over the names of a class
@@ -97,7 +98,7 @@ module _ (g : Grid) (W : List ℕ) (base n : ℕ) (first : Bool) (q : ℕ) (hq :
 -- ---- one state more
 
 module _ (g : Grid) (W : List ℕ) (base n : ℕ) (first : Bool) (q : ℕ) (hq : q < n) (s : Parted g W base n first q) (Y : List ℕ)
-    (kept : Kept g W Y (Spare g base (base + n) 2 4)) (news : (o : ℕ) → o < q → newOf g Y base o ≡ newOf g W base o) where
+    (kept : Kept g W Y (Spare g base (base + n) NEW (LINK + 1))) (news : (o : ℕ) → o < q → newOf g Y base o ≡ newOf g W base o) where
   same-class : (o : ℕ) → classOf g Y base o ≡ classOf g W base o
   same-class = class-same g W base n (s .part .ready) Y 2 4 (omega arith) (omega arith) kept
 
@@ -198,9 +199,9 @@ module _ (g : Grid) (W : List ℕ) (base n : ℕ) (first : Bool) (q : ℕ) (hq :
   deep : 8 ≤ g .depth
   deep = omega (arith, s .part .ready .room)
 
-  named-wider : (X Y : List ℕ) → Named g X Y base q → Kept g X Y (Spare g base (base + n) 2 4)
+  named-wider : (X Y : List ℕ) → Named g X Y base q → Kept g X Y (Spare g base (base + n) NEW (LINK + 1))
   named-wider X Y nm =
-      kept-wider g (Spare g base (base + n) 2 4) (Spare g (base + q) (base + q + 1) 2 4) X Y (nm .kept)
+      kept-wider g (Spare g base (base + n) NEW (LINK + 1)) (Spare g (base + q) (base + q + 1) NEW (LINK + 1)) X Y (nm .kept)
       (λ r c e i. (omega (arith, i .0), omega (arith, i .1), i .2, i .3, i .4))
 
   other-row : (X Y : List ℕ) → Named g X Y base q → (o e : ℕ) → o < q → e < 7 → at g Y (base + o) (g .tags) e ≡ at g X (base + o) (g .tags) e
@@ -226,20 +227,20 @@ module _ (g : Grid) (W : List ℕ) (base n : ℕ) (first : Bool) (q : ℕ) (hq :
 
   module _ (w : Walked) (f : Found g W base n first q w) where
     -- it joins a name that is alike
-    pub place-hit : (Y : List ℕ) → w .hit ≡ true → Put g W Y (base + q) (g .tags) 2 (w .at) → Placed g W Y base n first (q + 1)
+    pub place-hit : (Y : List ℕ) → w .hit ≡ true → Put g W Y (base + q) (g .tags) NEW (w .at) → Placed g W Y base n first (q + 1)
     place-hit Y hit p =
         parted-next g W base n first q hq s Y wider news (omega (arith, p .here, f .below))
         (ap (newOf g Y base) (p .here) ∙ news (w .at) (f .below) ∙ f .name ∙ sym (p .here))
         (ap (classOf g W base) (p .here) ∙ f .same) (subst (λ (i : ℕ). Key g W base n first i q) (sym (p .here)) (f .hit hit))
         (λ named. absurd (never named)) (λ o h name. by o name (below-suc o q (omega arith)))
       where
-        wider : Kept g W Y (Spare g base (base + n) 2 4)
+        wider : Kept g W Y (Spare g base (base + n) NEW (LINK + 1))
         wider =
-            kept-wider g (Spare g base (base + n) 2 4) (Entry (base + q) (g .tags) 2) W Y (p .kept)
+            kept-wider g (Spare g base (base + n) NEW (LINK + 1)) (Entry (base + q) (g .tags) NEW) W Y (p .kept)
             (λ r c e i. (omega (arith, i .0), omega (arith, i .0), i .1, omega (arith, i .2), omega (arith, i .2)))
 
         news : (o : ℕ) → o < q → newOf g Y base o ≡ newOf g W base o
-        news o h = p .kept .same (base + o) (g .tags) 2 (omega arith) (omega (arith, deep)) (λ i. omega (arith, i .0))
+        news o h = p .kept .same (base + o) (g .tags) NEW (omega arith) (omega (arith, deep)) (λ i. omega (arith, i .0))
 
         never : Name g Y base q → ⊥
         never named = omega (arith, named, p .here, f .below)
@@ -247,27 +248,27 @@ module _ (g : Grid) (W : List ℕ) (base n : ℕ) (first : Bool) (q : ℕ) (hq :
         by : (o : ℕ) → Name g Y base o → (o < q) ⊎ (o ≡ q) → ((linkOf g Y base o ≡ 0) × Gap g Y base o (q + 1)) ⊎ Follows g Y base o (q + 1)
         by o name (inl h) =
             link-on g W base n first q hq s Y wider news o h name
-            (p .kept .same (base + o) (g .tags) 3 (omega arith) (omega (arith, deep)) (λ i. omega (arith, i .2))) (λ gap here e. never here)
+            (p .kept .same (base + o) (g .tags) LINK (omega arith) (omega (arith, deep)) (λ i. omega (arith, i .2))) (λ gap here e. never here)
         by o name (inr e) = absurd (never (subst (λ (i : ℕ). Name g Y base i) e name))
 
     -- it is told from all names of its class, and follows the last one
-    pub place-miss : (X Y : List ℕ) → w .hit ≡ false → Put g W X (base + w .at) (g .tags) 3 q → Named g X Y base q → Placed g W Y base n first (q + 1)
+    pub place-miss : (X Y : List ℕ) → w .hit ≡ false → Put g W X (base + w .at) (g .tags) LINK q → Named g X Y base q → Placed g W Y base n first (q + 1)
     place-miss X Y miss p nm =
         parted-next g W base n first q hq s Y wider news (omega (arith, nm .name)) (ap (newOf g Y base) (nm .name))
         (ap (classOf g W base) (nm .name)) (subst (λ (i : ℕ). Key g W base n first i q) (sym (nm .name)) (key-refl g W base n first q))
         (λ named. f .miss miss .1) (λ o h name. by o name (below-suc o q (omega arith)))
       where
-        wider : Kept g W Y (Spare g base (base + n) 2 4)
+        wider : Kept g W Y (Spare g base (base + n) NEW (LINK + 1))
         wider =
-            kept-then g (Spare g base (base + n) 2 4) W X Y
-            (kept-wider g (Spare g base (base + n) 2 4) (Entry (base + w .at) (g .tags) 3) W X (p .kept)
+            kept-then g (Spare g base (base + n) NEW (LINK + 1)) W X Y
+            (kept-wider g (Spare g base (base + n) NEW (LINK + 1)) (Entry (base + w .at) (g .tags) LINK) W X (p .kept)
             (λ r c e i. (omega (arith, i .0), omega (arith, i .0, f .below), i .1, omega (arith, i .2), omega (arith, i .2))))
             (named-wider X Y nm)
 
         news : (o : ℕ) → o < q → newOf g Y base o ≡ newOf g W base o
         news o h =
             other-row X Y nm o 2 h (omega arith)
-            ∙ p .kept .same (base + o) (g .tags) 2 (omega arith) (omega (arith, deep)) (λ i. omega (arith, i .2))
+            ∙ p .kept .same (base + o) (g .tags) NEW (omega arith) (omega (arith, deep)) (λ i. omega (arith, i .2))
 
         back : (o i : ℕ) → classOf g Y base o ≡ classOf g Y base i → classOf g W base o ≡ classOf g W base i
         back = class-back g W base n first q hq s Y wider news
@@ -309,13 +310,13 @@ module _ (g : Grid) (W : List ℕ) (base n : ℕ) (first : Bool) (q : ℕ) (hq :
             at (yes e) = rw e (inr at-last)
             at (no ne) =
                 link-on g W base n first q hq s Y wider news o h name
-                (other-row X Y nm o 3 h (omega arith) ∙ p .kept .same (base + o) (g .tags) 3 (omega arith) (omega (arith, deep)) (λ i. ne (omega (arith, i .0))))
+                (other-row X Y nm o 3 h (omega arith) ∙ p .kept .same (base + o) (g .tags) LINK (omega arith) (omega (arith, deep)) (λ i. ne (omega (arith, i .0))))
                 (λ gap here e. not-last o h ne (name-back g W base n first q hq s Y wider news o h name) gap (back q o e))
 
 pub parted-start : (g : Grid) (W : List ℕ) (base n : ℕ) (first : Bool) → Part g W base n → Placed g W W base n first 0
 parted-start g W base n first s =
     record {
-      kept = kept-none g (Spare g base (base + n) 2 4) W;
+      kept = kept-none g (Spare g base (base + n) NEW (LINK + 1)) W;
       parted =
           record {
             part = s;
@@ -329,22 +330,22 @@ parted-start g W base n first s =
     }
 
 pub placed-then : (g : Grid) (W X Y : List ℕ) (base n : ℕ) (first : Bool) (i j : ℕ) → Placed g W X base n first i → Placed g X Y base n first j → Placed g W Y base n first j
-placed-then g W X Y base n first i j a b = record { kept = kept-then g (Spare g base (base + n) 2 4) W X Y (a .kept) (b .kept); parted = b .parted }
+placed-then g W X Y base n first i j a b = record { kept = kept-then g (Spare g base (base + n) NEW (LINK + 1)) W X Y (a .kept) (b .kept); parted = b .parted }
 
-pub named-new : (g : Grid) (W X Y : List ℕ) (base q : ℕ) → 8 ≤ g .depth → Put g W X (base + q) (g .tags) 2 q → Put g X Y (base + q) (g .tags) 3 0 → Named g W Y base q
+pub named-new : (g : Grid) (W X Y : List ℕ) (base q : ℕ) → 8 ≤ g .depth → Put g W X (base + q) (g .tags) NEW q → Put g X Y (base + q) (g .tags) LINK 0 → Named g W Y base q
 named-new g W X Y base q deep a b =
     record {
       kept =
-          kept-then g (Spare g (base + q) (base + q + 1) 2 4) W X Y
-          (kept-wider g (Spare g (base + q) (base + q + 1) 2 4) (Entry (base + q) (g .tags) 2) W X (a .kept) (λ r c e i. (omega (arith, i .0), omega (arith, i .0), i .1, omega (arith, i .2), omega (arith, i .2))))
-          (kept-wider g (Spare g (base + q) (base + q + 1) 2 4) (Entry (base + q) (g .tags) 3) X Y (b .kept) (λ r c e i. (omega (arith, i .0), omega (arith, i .0), i .1, omega (arith, i .2), omega (arith, i .2))));
-      name = b .kept .same (base + q) (g .tags) 2 (omega arith) (omega arith) (λ i. omega (arith, i .2)) ∙ a .here;
+          kept-then g (Spare g (base + q) (base + q + 1) NEW (LINK + 1)) W X Y
+          (kept-wider g (Spare g (base + q) (base + q + 1) NEW (LINK + 1)) (Entry (base + q) (g .tags) NEW) W X (a .kept) (λ r c e i. (omega (arith, i .0), omega (arith, i .0), i .1, omega (arith, i .2), omega (arith, i .2))))
+          (kept-wider g (Spare g (base + q) (base + q + 1) NEW (LINK + 1)) (Entry (base + q) (g .tags) LINK) X Y (b .kept) (λ r c e i. (omega (arith, i .0), omega (arith, i .0), i .1, omega (arith, i .2), omega (arith, i .2))));
+      name = b .kept .same (base + q) (g .tags) NEW (omega arith) (omega arith) (λ i. omega (arith, i .2)) ∙ a .here;
       last = b .here;
     }
 
 -- a link that is set leaves the transducer
-pub ready-link : (g : Grid) (W X : List ℕ) (base n p v : ℕ) → Ready g W base n → p < n → Put g W X (base + p) (g .tags) 3 v → Ready g X base n
+pub ready-link : (g : Grid) (W X : List ℕ) (base n p v : ℕ) → Ready g W base n → p < n → Put g W X (base + p) (g .tags) LINK v → Ready g X base n
 ready-link g W X base n p v ok h l =
     ready-kept g W base n ok X 3 4 (omega arith)
-    (kept-wider g (Spare g base (base + n) 3 4) (Entry (base + p) (g .tags) 3) W X (l .kept)
+    (kept-wider g (Spare g base (base + n) LINK (LINK + 1)) (Entry (base + p) (g .tags) LINK) W X (l .kept)
     (λ r c e i. (omega (arith, i .0), omega (arith, i .0), i .1, omega (arith, i .2), omega (arith, i .2))))

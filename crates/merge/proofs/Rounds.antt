@@ -15,9 +15,11 @@ use Rattle.transducers.specs.Tabulate.{tabulate}
 use Rattle.transducers.specs.Merge.{Classes, class, classes}
 use Rattle.transducers.proofs.Merge.{coarse-refined, classes-any}
 use Rattle.workspace.specs.declared.Grid.{Grid}
+use Rattle.workspace.specs.Entries.{CLASS, NEW, LINK}
 use Rattle.workspace.specs.Cells.{Kept, Spare, Put, Got}
 use Rattle.workspace.specs.Holds.{Ready, tableAt, standing}
-use Rattle.workspace.proofs.Cells.{kept-none, kept-then, kept-wider, tabulate-same, spare-put}
+use Rattle.workspace.proofs.Regions.{kept-none, kept-then, kept-wider, spare-put}
+use Rattle.workspace.proofs.Words.{tabulate-same}
 use Rattle.workspace.proofs.Holds.{length-at}
 use Rattle.workspace.proofs.Views.{in-table, next-below, same-table, ready-kept}
 use Rattle.workspace.proofs.Falls.{total-falls}
@@ -33,21 +35,21 @@ module _ (g : Grid) (W : List ℕ) (base n : ℕ) (ok : Ready g W base n) where
   pub taken-start : Taken g W W base n 0 false
   taken-start =
       record {
-        kept = kept-none g (Spare g base (base + n) 1 2) W;
+        kept = kept-none g (Spare g base (base + n) CLASS (CLASS + 1)) W;
         taken = λ q h. absurd (omega arith);
         still = λ q h. refl;
         moved = λ e. let z : _≡_ {A = ℕ} 0 1 = cc in absurd (omega arith);
         rests = λ e q h. absurd (omega arith);
       }
 
-  elsewhere : (X Y : List ℕ) (q v o : ℕ) → Put g X Y (base + q) (g .tags) 1 v → (o ≡ q → ⊥) → classOf g Y base o ≡ classOf g X base o
-  elsewhere X Y q v o p ne = p .kept .same (base + o) (g .tags) 1 (omega arith) (omega (arith, deep)) (λ i. ne (omega (arith, i .0)))
+  elsewhere : (X Y : List ℕ) (q v o : ℕ) → Put g X Y (base + q) (g .tags) CLASS v → (o ≡ q → ⊥) → classOf g Y base o ≡ classOf g X base o
+  elsewhere X Y q v o p ne = p .kept .same (base + o) (g .tags) CLASS (omega arith) (omega (arith, deep)) (λ i. ne (omega (arith, i .0)))
 
-  pub taken-next : (X Y : List ℕ) (q c d : ℕ) (old r : Bool) → q < n → Taken g W X base n q old → Got g X (base + q) (g .tags) 1 c
-      → Got g X (base + q) (g .tags) 2 d → Put g X Y (base + q) (g .tags) 1 d → Differs old d c r → Taken g W Y base n (q + 1) r
+  pub taken-next : (X Y : List ℕ) (q c d : ℕ) (old r : Bool) → q < n → Taken g W X base n q old → Got g X (base + q) (g .tags) CLASS c
+      → Got g X (base + q) (g .tags) NEW d → Put g X Y (base + q) (g .tags) CLASS d → Differs old d c r → Taken g W Y base n (q + 1) r
   taken-next X Y q c d old r h t got-c got-d p diff =
       record {
-        kept = kept-then g (Spare g base (base + n) 1 2) W X Y (t .kept) (spare-put g base n 1 2 X Y q 1 d h (omega arith) (omega arith) p);
+        kept = kept-then g (Spare g base (base + n) CLASS (CLASS + 1)) W X Y (t .kept) (spare-put g base n 1 2 X Y q 1 d h (omega arith) (omega arith) p);
         taken = λ o ho. go o (below-suc o q (omega arith));
         still = λ o ho. elsewhere X Y q d o p (λ e. omega arith) ∙ t .still o (omega arith);
         moved = λ e. move (diff .up e);
@@ -55,7 +57,7 @@ module _ (g : Grid) (W : List ℕ) (base n : ℕ) (ok : Ready g W base n) where
       }
     where
       is-d : d ≡ newOf g W base q
-      is-d = got-d .is ∙ t .kept .same (base + q) (g .tags) 2 (omega arith) (omega (arith, deep)) (λ i. omega (arith, i .4))
+      is-d = got-d .is ∙ t .kept .same (base + q) (g .tags) NEW (omega arith) (omega (arith, deep)) (λ i. omega (arith, i .4))
 
       is-c : c ≡ classOf g W base q
       is-c = got-c .is ∙ t .still q (omega arith)
@@ -124,9 +126,9 @@ module _ (g : Grid) (W : List ℕ) (base n : ℕ) (first : Bool) (s : Part g W b
   round-done =
       record {
         kept =
-            kept-then g (Spare g base (base + n) 1 4) W X Y
-            (kept-wider g (Spare g base (base + n) 1 4) (Spare g base (base + n) 2 4) W X (placed .kept) (λ r c e i. (i .0, i .1, i .2, omega (arith, i .3), i .4)))
-            (kept-wider g (Spare g base (base + n) 1 4) (Spare g base (base + n) 1 2) X Y (taken .kept) (λ r c e i. (i .0, i .1, i .2, i .3, omega (arith, i .4))));
+            kept-then g (Spare g base (base + n) CLASS (LINK + 1)) W X Y
+            (kept-wider g (Spare g base (base + n) CLASS (LINK + 1)) (Spare g base (base + n) NEW (LINK + 1)) W X (placed .kept) (λ r c e i. (i .0, i .1, i .2, omega (arith, i .3), i .4)))
+            (kept-wider g (Spare g base (base + n) CLASS (LINK + 1)) (Spare g base (base + n) CLASS (CLASS + 1)) X Y (taken .kept) (λ r c e i. (i .0, i .1, i .2, i .3, omega (arith, i .4))));
         part =
             record {
               ready = ready-kept g X base n x-ready Y 1 2 (omega arith) (taken .kept);
@@ -201,7 +203,7 @@ module _ (g : Grid) (W X : List ℕ) (base n : ℕ) (s : Part g W base n) where
       omega (arith, e)
 
 -- classes that rest are those of the definition
-pub merged-done : (g : Grid) (W X : List ℕ) (base n : ℕ) → Ready g W base n → Kept g W X (Spare g base (base + n) 1 4) → Part g X base n → Worded g X base n
+pub merged-done : (g : Grid) (W X : List ℕ) (base n : ℕ) → Ready g W base n → Kept g W X (Spare g base (base + n) CLASS (LINK + 1)) → Part g X base n → Worded g X base n
     → Still g X base n → Merged g W X base n
 merged-done g W X base n ok kept s w still =
     record {

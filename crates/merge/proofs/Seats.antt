@@ -12,13 +12,14 @@ use Rattle.words.proofs.Word.{below-suc}
 use Rattle.transducers.specs.Canonical.{Early}
 use Rattle.transducers.proofs.Merge.{coarse-refined}
 use Rattle.workspace.specs.declared.Grid.{Grid}
+use Rattle.workspace.specs.Entries.{OUTPUT, FINAL, CLASS, HEAD}
 use Rattle.workspace.specs.Cells.{at, Kept, Spare, Put, Got, Cleared}
 use Rattle.workspace.specs.Holds.{Ready, tableAt, standing}
-use Rattle.workspace.proofs.Cells.{kept-then, kept-wider, spare-put}
+use Rattle.workspace.proofs.Regions.{kept-then, kept-wider, spare-put}
 use Rattle.workspace.proofs.Holds.{length-at}
 use Rattle.workspace.proofs.Views.{in-table, final-size, output-size, same-table, ready-kept}
-use Rattle.merge.specs.Classes.{classOf, newOf, Part}
-use Rattle.merge.specs.Seats.{mixed, digest, bucket, Seating, Seated}
+use Rattle.merge.specs.Classes.{classOf, Part}
+use Rattle.merge.specs.Seats.{headOf, mixed, digest, bucket, Seating, Seated}
 
 pub mixed-next : (f : ℕ → ℕ) (h a : ℕ) → (mixed f h a * 31 + f a) % 0x10000 ≡ mixed f h (a + 1)
 mixed-next f h a = ap (mixed f h) (sym (add-one a))
@@ -30,15 +31,15 @@ mixed-same f f' h h' (suc n) e same =
 
 module _ (g : Grid) (base n : ℕ) where
   -- notes leave the digests
-  digest-kept : (W X : List ℕ) → 8 ≤ g .depth → Kept g W X (Spare g base (base + n) 1 3) → (q : ℕ) → digest g X base q ≡ digest g W base q
+  digest-kept : (W X : List ℕ) → 8 ≤ g .depth → Kept g W X (Spare g base (base + n) CLASS (HEAD + 1)) → (q : ℕ) → digest g X base q ≡ digest g W base q
   digest-kept W X deep kept q =
-      mixed-same (λ a. at g X (base + q) a 1) (λ a. at g W (base + q) a 1) (at g X (base + q) (g .tags) 7) (at g W (base + q) (g .tags) 7) (g .tags)
-      (kept .same (base + q) (g .tags) 7 (omega arith) (omega arith) (λ i. omega (arith, i .4)))
-      (λ a ha. kept .same (base + q) a 1 (omega arith) (omega arith) (λ i. omega (arith, i .2)))
+      mixed-same (λ a. at g X (base + q) a OUTPUT) (λ a. at g W (base + q) a OUTPUT) (at g X (base + q) (g .tags) FINAL) (at g W (base + q) (g .tags) FINAL) (g .tags)
+      (kept .same (base + q) (g .tags) FINAL (omega arith) (omega arith) (λ i. omega (arith, i .4)))
+      (λ a ha. kept .same (base + q) a OUTPUT (omega arith) (omega arith) (λ i. omega (arith, i .2)))
 
-  pub seating-start : (W X : List ℕ) → Ready g W base n → Cleared g W X base n 2 n → Seated g W X base n 0
+  pub seating-start : (W X : List ℕ) → Ready g W base n → Cleared g W X base n HEAD n → Seated g W X base n 0
   seating-start W X ok c =
-      let kept = kept-wider g (Spare g base (base + n) 1 3) (Spare g base (base + n) 2 3) W X (c .kept) (λ r c' e i. (i .0, i .1, i .2, omega (arith, i .3), i .4)) in
+      let kept = kept-wider g (Spare g base (base + n) CLASS (HEAD + 1)) (Spare g base (base + n) HEAD (HEAD + 1)) W X (c .kept) (λ r c' e i. (i .0, i .1, i .2, omega (arith, i .3), i .4)) in
       record {
         kept = kept;
         seating =
@@ -57,13 +58,13 @@ module _ (g : Grid) (base n : ℕ) where
     pub bucket-below : (q : ℕ) → bucket g W base n q < n
     bucket-below q = mod-lt (digest g W base q) (omega arith)
 
-    module _ (b head : ℕ) (is : b ≡ bucket g W base n i) (got : Got g W (base + b) (g .tags) 2 head) where
+    module _ (b head : ℕ) (is : b ≡ bucket g W base n i) (got : Got g W (base + b) (g .tags) HEAD head) where
       -- its bucket has a first state
       module _ (some : head ≡ 0 → ⊥) where
-        there : (newOf g W base b - 1 < i) × (classOf g W base (newOf g W base b - 1) ≡ newOf g W base b - 1)
+        there : (headOf g W base b - 1 < i) × (classOf g W base (headOf g W base b - 1) ≡ headOf g W base b - 1)
         there = s .heads b (omega (arith, is, bucket-below i)) (λ e. some (got .is ∙ e))
 
-        pub seat-old : (X : List ℕ) → Put g W X (base + i) (g .tags) 1 (head - 1) → Seated g W X base n (i + 1)
+        pub seat-old : (X : List ℕ) → Put g W X (base + i) (g .tags) CLASS (head - 1) → Seated g W X base n (i + 1)
         seat-old X p =
             record {
               kept = kept;
@@ -76,14 +77,14 @@ module _ (g : Grid) (base n : ℕ) where
                   };
             }
           where
-            kept : Kept g W X (Spare g base (base + n) 1 3)
+            kept : Kept g W X (Spare g base (base + n) CLASS (HEAD + 1))
             kept = spare-put g base n 1 3 W X i 1 (head - 1) h (omega arith) (omega arith) p
 
-            news : (c : ℕ) → newOf g X base c ≡ newOf g W base c
-            news c = p .kept .same (base + c) (g .tags) 2 (omega arith) (omega (arith, deep)) (λ j. omega (arith, j .2))
+            news : (c : ℕ) → headOf g X base c ≡ headOf g W base c
+            news c = p .kept .same (base + c) (g .tags) HEAD (omega arith) (omega (arith, deep)) (λ j. omega (arith, j .2))
 
             class-other : (q : ℕ) → q < i → classOf g X base q ≡ classOf g W base q
-            class-other q l = p .kept .same (base + q) (g .tags) 1 (omega arith) (omega (arith, deep)) (λ j. omega (arith, j .0))
+            class-other q l = p .kept .same (base + q) (g .tags) CLASS (omega arith) (omega (arith, deep)) (λ j. omega (arith, j .0))
 
             buckets : (q : ℕ) → bucket g X base n q ≡ bucket g W base n q
             buckets q = ap (λ (d : ℕ). d % n) (digest-kept W X deep kept q)
@@ -92,25 +93,25 @@ module _ (g : Grid) (base n : ℕ) where
             low q (inl l) = omega (arith, class-other q l, s .low q l)
             low q (inr e) = omega (arith, e, ap (classOf g X base) e, p .here, got .is, there .0)
 
-            heads : (c : ℕ) → c < n → (newOf g W base c ≡ 0 → ⊥) → (newOf g X base c - 1 < i + 1) × (classOf g X base (newOf g X base c - 1) ≡ newOf g X base c - 1)
+            heads : (c : ℕ) → c < n → (headOf g W base c ≡ 0 → ⊥) → (headOf g X base c - 1 < i + 1) × (classOf g X base (headOf g X base c - 1) ≡ headOf g X base c - 1)
             heads c hc nz =
                 let o = s .heads c hc nz in
-                (omega (arith, news c, o .0), ap (λ (j : ℕ). classOf g X base (j - 1)) (news c) ∙ class-other (newOf g W base c - 1) (o .0) ∙ o .1 ∙ ap (λ (j : ℕ). j - 1) (sym (news c)))
+                (omega (arith, news c, o .0), ap (λ (j : ℕ). classOf g X base (j - 1)) (news c) ∙ class-other (headOf g W base c - 1) (o .0) ∙ o .1 ∙ ap (λ (j : ℕ). j - 1) (sym (news c)))
 
-            seat-of : (q c : ℕ) → bucket g X base n q ≡ c → (newOf g W base c ≡ 0 → ⊥) → classOf g X base q ≡ newOf g W base c - 1
-                → (newOf g X base (bucket g X base n q) ≡ 0 → ⊥) × (classOf g X base q ≡ newOf g X base (bucket g X base n q) - 1)
+            seat-of : (q c : ℕ) → bucket g X base n q ≡ c → (headOf g W base c ≡ 0 → ⊥) → classOf g X base q ≡ headOf g W base c - 1
+                → (headOf g X base (bucket g X base n q) ≡ 0 → ⊥) × (classOf g X base q ≡ headOf g X base (bucket g X base n q) - 1)
             seat-of q c e nz cl =
-                let m : newOf g X base (bucket g X base n q) ≡ newOf g W base c = ap (newOf g X base) e ∙ news c in
+                let m : headOf g X base (bucket g X base n q) ≡ headOf g W base c = ap (headOf g X base) e ∙ news c in
                 (λ z. nz (sym m ∙ z), cl ∙ ap (λ (j : ℕ). j - 1) (sym m))
 
-            seats : (q : ℕ) → (q < i) ⊎ (q ≡ i) → (newOf g X base (bucket g X base n q) ≡ 0 → ⊥) × (classOf g X base q ≡ newOf g X base (bucket g X base n q) - 1)
+            seats : (q : ℕ) → (q < i) ⊎ (q ≡ i) → (headOf g X base (bucket g X base n q) ≡ 0 → ⊥) × (classOf g X base q ≡ headOf g X base (bucket g X base n q) - 1)
             seats q (inl l) = let o = s .seats q l in seat-of q (bucket g W base n q) (buckets q) (o .0) (class-other q l ∙ o .1)
             seats q (inr e) =
                 rw e (seat-of i b (buckets i ∙ sym is) (λ z. some (got .is ∙ z)) (p .here ∙ ap (λ (j : ℕ). j - 1) (got .is)))
 
       -- it is the first of its bucket
       module _ (none : head ≡ 0) where
-        pub seat-new : (X Y : List ℕ) → Put g W X (base + b) (g .tags) 2 (i + 1) → Put g X Y (base + i) (g .tags) 1 i → Seated g W Y base n (i + 1)
+        pub seat-new : (X Y : List ℕ) → Put g W X (base + b) (g .tags) HEAD (i + 1) → Put g X Y (base + i) (g .tags) CLASS i → Seated g W Y base n (i + 1)
         seat-new X Y p1 p2 =
             record {
               kept = kept;
@@ -123,23 +124,23 @@ module _ (g : Grid) (base n : ℕ) where
                   };
             }
           where
-            kept : Kept g W Y (Spare g base (base + n) 1 3)
+            kept : Kept g W Y (Spare g base (base + n) CLASS (HEAD + 1))
             kept =
-                kept-then g (Spare g base (base + n) 1 3) W X Y
+                kept-then g (Spare g base (base + n) CLASS (HEAD + 1)) W X Y
                 (spare-put g base n 1 3 W X b 2 (i + 1) (omega (arith, is, bucket-below i)) (omega arith) (omega arith) p1) (spare-put g base n 1 3 X Y i 1 i h (omega arith) (omega arith) p2)
 
-            new-here : newOf g Y base b ≡ i + 1
-            new-here = p2 .kept .same (base + b) (g .tags) 2 (omega arith) (omega (arith, deep)) (λ j. omega (arith, j .2)) ∙ p1 .here
+            new-here : headOf g Y base b ≡ i + 1
+            new-here = p2 .kept .same (base + b) (g .tags) HEAD (omega arith) (omega (arith, deep)) (λ j. omega (arith, j .2)) ∙ p1 .here
 
-            new-other : (c : ℕ) → (c ≡ b → ⊥) → newOf g Y base c ≡ newOf g W base c
+            new-other : (c : ℕ) → (c ≡ b → ⊥) → headOf g Y base c ≡ headOf g W base c
             new-other c d =
-                p2 .kept .same (base + c) (g .tags) 2 (omega arith) (omega (arith, deep)) (λ j. omega (arith, j .2))
-                ∙ p1 .kept .same (base + c) (g .tags) 2 (omega arith) (omega (arith, deep)) (λ j. d (omega (arith, j .0)))
+                p2 .kept .same (base + c) (g .tags) HEAD (omega arith) (omega (arith, deep)) (λ j. omega (arith, j .2))
+                ∙ p1 .kept .same (base + c) (g .tags) HEAD (omega arith) (omega (arith, deep)) (λ j. d (omega (arith, j .0)))
 
             class-other : (q : ℕ) → q < i → classOf g Y base q ≡ classOf g W base q
             class-other q l =
-                p2 .kept .same (base + q) (g .tags) 1 (omega arith) (omega (arith, deep)) (λ j. omega (arith, j .0))
-                ∙ p1 .kept .same (base + q) (g .tags) 1 (omega arith) (omega (arith, deep)) (λ j. omega (arith, j .2))
+                p2 .kept .same (base + q) (g .tags) CLASS (omega arith) (omega (arith, deep)) (λ j. omega (arith, j .0))
+                ∙ p1 .kept .same (base + q) (g .tags) CLASS (omega arith) (omega (arith, deep)) (λ j. omega (arith, j .2))
 
             buckets : (q : ℕ) → bucket g Y base n q ≡ bucket g W base n q
             buckets q = ap (λ (d : ℕ). d % n) (digest-kept W Y deep kept q)
@@ -148,23 +149,23 @@ module _ (g : Grid) (base n : ℕ) where
             low q (inl l) = omega (arith, class-other q l, s .low q l)
             low q (inr e) = omega (arith, e, ap (classOf g Y base) e, p2 .here)
 
-            heads : (c : ℕ) → c < n → (newOf g Y base c ≡ 0 → ⊥) → Dec (c ≡ b) → (newOf g Y base c - 1 < i + 1) × (classOf g Y base (newOf g Y base c - 1) ≡ newOf g Y base c - 1)
+            heads : (c : ℕ) → c < n → (headOf g Y base c ≡ 0 → ⊥) → Dec (c ≡ b) → (headOf g Y base c - 1 < i + 1) × (classOf g Y base (headOf g Y base c - 1) ≡ headOf g Y base c - 1)
             heads c hc nz (yes e) =
-                let m : newOf g Y base c - 1 ≡ i = omega (arith, ap (newOf g Y base) e, new-here) in
+                let m : headOf g Y base c - 1 ≡ i = omega (arith, ap (headOf g Y base) e, new-here) in
                 (omega (arith, m), ap (classOf g Y base) m ∙ p2 .here ∙ sym m)
             heads c hc nz (no d) =
                 let m = new-other c d in
                 let o = s .heads c hc (λ z. nz (m ∙ z)) in
-                (omega (arith, m, o .0), ap (λ (j : ℕ). classOf g Y base (j - 1)) m ∙ class-other (newOf g W base c - 1) (o .0) ∙ o .1 ∙ ap (λ (j : ℕ). j - 1) (sym m))
+                (omega (arith, m, o .0), ap (λ (j : ℕ). classOf g Y base (j - 1)) m ∙ class-other (headOf g W base c - 1) (o .0) ∙ o .1 ∙ ap (λ (j : ℕ). j - 1) (sym m))
 
-            seats : (q : ℕ) → (q < i) ⊎ (q ≡ i) → (newOf g Y base (bucket g Y base n q) ≡ 0 → ⊥) × (classOf g Y base q ≡ newOf g Y base (bucket g Y base n q) - 1)
+            seats : (q : ℕ) → (q < i) ⊎ (q ≡ i) → (headOf g Y base (bucket g Y base n q) ≡ 0 → ⊥) × (classOf g Y base q ≡ headOf g Y base (bucket g Y base n q) - 1)
             seats q (inl l) =
                 let o = s .seats q l in
-                let apart : bucket g W base n q ≡ b → ⊥ = λ e. o .0 (ap (newOf g W base) e ∙ sym (got .is) ∙ none) in
-                let m : newOf g Y base (bucket g Y base n q) ≡ newOf g W base (bucket g W base n q) = ap (newOf g Y base) (buckets q) ∙ new-other (bucket g W base n q) apart in
+                let apart : bucket g W base n q ≡ b → ⊥ = λ e. o .0 (ap (headOf g W base) e ∙ sym (got .is) ∙ none) in
+                let m : headOf g Y base (bucket g Y base n q) ≡ headOf g W base (bucket g W base n q) = ap (headOf g Y base) (buckets q) ∙ new-other (bucket g W base n q) apart in
                 (λ z. o .0 (sym m ∙ z), class-other q l ∙ o .1 ∙ ap (λ (j : ℕ). j - 1) (sym m))
             seats q (inr e) =
-                let m : newOf g Y base (bucket g Y base n i) ≡ i + 1 = ap (newOf g Y base) (buckets i ∙ sym is) ∙ new-here in
+                let m : headOf g Y base (bucket g Y base n i) ≡ i + 1 = ap (headOf g Y base) (buckets i ∙ sym is) ∙ new-here in
                 rw e (λ z. omega (arith, m, z), omega (arith, p2 .here, m))
 
   -- states that put out the same are seated together
@@ -193,7 +194,7 @@ module _ (g : Grid) (base n : ℕ) where
           → ((a : ℕ) → a < g .tags → standing g X base n .output p a ≡ standing g X base n .output q a) → classOf g X base p ≡ classOf g X base q
       together p q hp hq f o =
           let d : digest g X base p ≡ digest g X base q =
-          mixed-same (λ a. at g X (base + p) a 1) (λ a. at g X (base + q) a 1) (at g X (base + p) (g .tags) 7) (at g X (base + q) (g .tags) 7) (g .tags)
+          mixed-same (λ a. at g X (base + p) a OUTPUT) (λ a. at g X (base + q) a OUTPUT) (at g X (base + p) (g .tags) FINAL) (at g X (base + q) (g .tags) FINAL) (g .tags)
           (final-size g X base n (s .ready) p hp ∙ ap length f ∙ sym (final-size g X base n (s .ready) q hq))
           (λ a ha. output-size g X base n (s .ready) p a hp ha ∙ ap length (o a ha) ∙ sym (output-size g X base n (s .ready) q a hq ha)) in
-          s .seats p hp .1 ∙ ap (λ (x : ℕ). newOf g X base (x % n) - 1) d ∙ sym (s .seats q hq .1)
+          s .seats p hp .1 ∙ ap (λ (x : ℕ). headOf g X base (x % n) - 1) d ∙ sym (s .seats q hq .1)

@@ -8,19 +8,20 @@ use Rattle.transducers.specs.Transducer.{puts}
 use Rattle.transducers.specs.Canonical.{Same, Early}
 use Rattle.transducers.specs.Merge.{class, classes}
 use Rattle.workspace.specs.declared.Grid.{Grid}
+use Rattle.workspace.specs.Entries.{CLASS, NEW, LINK}
 use Rattle.workspace.specs.Cells.{at, Kept, Spare}
 use Rattle.workspace.specs.Holds.{Ready, tableAt, standing}
 use Rattle.merge.specs.declared.Walked.{Walked}
 
 -- the class so far, the new one, and the name that follows a name within its old class
 abbrev pub classOf : Grid → List ℕ → ℕ → ℕ → ℕ
-classOf g W base q = at g W (base + q) (g .tags) 1
+classOf g W base q = at g W (base + q) (g .tags) CLASS
 
 abbrev pub newOf : Grid → List ℕ → ℕ → ℕ → ℕ
-newOf g W base q = at g W (base + q) (g .tags) 2
+newOf g W base q = at g W (base + q) (g .tags) NEW
 
 abbrev pub linkOf : Grid → List ℕ → ℕ → ℕ → ℕ
-linkOf g W base q = at g W (base + q) (g .tags) 3
+linkOf g W base q = at g W (base + q) (g .tags) LINK
 
 -- alike by the words put out; alike by the classes of the next states
 abbrev pub Words : Grid → List ℕ → ℕ → ℕ → ℕ → ℕ → Type 0
@@ -79,12 +80,12 @@ pub record Found (g : Grid) (W : List ℕ) (base n : ℕ) (first : Bool) (q : �
 
 -- one state more
 pub record Placed (g : Grid) (W X : List ℕ) (base n : ℕ) (first : Bool) (i : ℕ) : Type 0 where
-  pub kept : Kept g W X (Spare g base (base + n) 2 4)
+  pub kept : Kept g W X (Spare g base (base + n) NEW (LINK + 1))
   pub parted : Parted g X base n first i
 
 -- the new classes are the classes
 pub record Taken (g : Grid) (W X : List ℕ) (base n i : ℕ) (changed : Bool) : Type 0 where
-  pub kept : Kept g W X (Spare g base (base + n) 1 2)
+  pub kept : Kept g W X (Spare g base (base + n) CLASS (CLASS + 1))
   pub taken : (q : ℕ) → q < i → classOf g X base q ≡ newOf g W base q
   pub still : (q : ℕ) → i ≤ q → classOf g X base q ≡ classOf g W base q
   pub moved : changed ≡ true → (q : ℕ) × (q < i) × (newOf g W base q ≡ classOf g W base q → ⊥)
@@ -92,12 +93,12 @@ pub record Taken (g : Grid) (W X : List ℕ) (base n i : ℕ) (changed : Bool) :
 
 -- the classes are those of the definition
 pub record Merged (g : Grid) (W X : List ℕ) (base n : ℕ) : Type 0 where
-  pub kept : Kept g W X (Spare g base (base + n) 1 4)
+  pub kept : Kept g W X (Spare g base (base + n) CLASS (LINK + 1))
   pub named : (q : ℕ) → q < n → classOf g X base q ≡ class (classes (tableAt g W base n)) q
 
 -- q names a new class, and no name follows it
 pub record Named (g : Grid) (W X : List ℕ) (base q : ℕ) : Type 0 where
-  pub kept : Kept g W X (Spare g (base + q) (base + q + 1) 2 4)
+  pub kept : Kept g W X (Spare g (base + q) (base + q + 1) NEW (LINK + 1))
   pub name : newOf g X base q ≡ q
   pub last : linkOf g X base q ≡ 0
 
@@ -107,7 +108,7 @@ pub record Differs (changed : Bool) (c d : ℕ) (r : Bool) : Type 0 where
 
 -- a round: the classes are split, or rest
 pub record Round (g : Grid) (W X : List ℕ) (base n : ℕ) (first changed : Bool) : Type 0 where
-  pub kept : Kept g W X (Spare g base (base + n) 1 4)
+  pub kept : Kept g W X (Spare g base (base + n) CLASS (LINK + 1))
   pub part : Part g X base n
   pub grows : (q : ℕ) → q < n → classOf g W base q ≤ classOf g X base q
   pub within : (q : ℕ) → q < n → classOf g W base (classOf g X base q) ≡ classOf g W base q

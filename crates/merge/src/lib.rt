@@ -1,8 +1,15 @@
 // Merging: a class for each state, named by the least of the states that still put out the same.
-// Time grows with the number of rounds (in practice a few) times the states times the tags times the names tried for a state,
-// which are those of the new classes within its old one.
-// The idea is Moore's: states are told apart by what they put out at a step, then by where the step leads, until no class splits.
+// Time O(r n k c) for r rounds (at most n, in practice a few), n states, k tags and c names tried for a state, which are those of the new
+// classes within its old one; the first round compares words of d tags, O(n k c d). Space is three notes in each row.
+// From Moore: states are told apart by what they put out at a step, then by where the step leads, until no class splits.
+use workspace::CLASS;
+use workspace::FINAL;
 use workspace::Grid;
+use workspace::HEAD;
+use workspace::LINK;
+use workspace::NEW;
+use workspace::NEXT;
+use workspace::OUTPUT;
 use workspace::clear_notes;
 use workspace::get;
 use workspace::put;
@@ -29,7 +36,7 @@ fn same_outputs(work: &[u16], g: Grid, base: usize, n: usize, p: usize, q: usize
     let tags = g.tags;
     let mut a = 0;
     while a < tags {
-        if !same_words(work, g, base + p, a, 1, base + q, a, 1) {
+        if !same_words(work, g, base + p, a, OUTPUT, base + q, a, OUTPUT) {
             return false;
         }
         a += 1;
@@ -45,9 +52,9 @@ fn same_nexts(work: &[u16], g: Grid, base: usize, n: usize, p: usize, q: usize) 
     let tags = g.tags;
     let mut a = 0;
     while a < tags {
-        let p2 = get(work, g, base + p, a, 0);
-        let q2 = get(work, g, base + q, a, 0);
-        if get(work, g, base + p2, g.tags, 1) != get(work, g, base + q2, g.tags, 1) {
+        let p2 = get(work, g, base + p, a, NEXT);
+        let q2 = get(work, g, base + q, a, NEXT);
+        if get(work, g, base + p2, g.tags, CLASS) != get(work, g, base + q2, g.tags, CLASS) {
             return false;
         }
         a += 1;
@@ -64,7 +71,7 @@ fn alike(work: &[u16], g: Grid, base: usize, n: usize, p: usize, q: usize, first
     if !first {
         return same_nexts(work, g, base, n, p, q);
     }
-    if !same_words(work, g, base + p, g.tags, 7, base + q, g.tags, 7) {
+    if !same_words(work, g, base + p, g.tags, FINAL, base + q, g.tags, FINAL) {
         return false;
     }
     same_outputs(work, g, base, n, p, q)
@@ -86,7 +93,7 @@ fn find_name(
 {
     let mut p = c;
     while !alike(work, g, base, n, p, q, first) {
-        let next = get(work, g, base + p, g.tags, 3);
+        let next = get(work, g, base + p, g.tags, LINK);
         if next == 0 {
             return Walked { at: p, hit: false };
         }
@@ -100,8 +107,8 @@ fn name_new(work: &mut [u16], g: Grid, base: usize, n: usize, q: usize)
     requires { ⌜ q < n ⌝ }
     ensures { λ _. ⌜ Named g (now (work .entry)) (now (work .exit)) base q ⌝ }
 {
-    put(work, g, base + q, g.tags, 2, q);
-    put(work, g, base + q, g.tags, 3, 0);
+    put(work, g, base + q, g.tags, NEW, q);
+    put(work, g, base + q, g.tags, LINK, 0);
 }
 
 // The new class of q.
@@ -110,7 +117,7 @@ fn place(work: &mut [u16], g: Grid, base: usize, n: usize, q: usize, first: bool
     requires { ⌜ q < n ⌝ }
     ensures { λ _. ⌜ Placed g (now (work .entry)) (now (work .exit)) base n first (q + 1) ⌝ }
 {
-    let c = get(work, g, base + q, g.tags, 1);
+    let c = get(work, g, base + q, g.tags, CLASS);
     if c == q {
         name_new(work, g, base, n, q);
         return;
@@ -118,10 +125,10 @@ fn place(work: &mut [u16], g: Grid, base: usize, n: usize, q: usize, first: bool
     let w = find_name(work, g, base, n, q, c, first);
     let at = w.at;
     if w.hit {
-        put(work, g, base + q, g.tags, 2, at);
+        put(work, g, base + q, g.tags, NEW, at);
         return;
     }
-    put(work, g, base + at, g.tags, 3, q);
+    put(work, g, base + at, g.tags, LINK, q);
     name_new(work, g, base, n, q);
 }
 
@@ -152,9 +159,9 @@ fn take_over(work: &mut [u16], g: Grid, base: usize, n: usize) -> bool
     let mut changed = false;
     let mut q = 0;
     while q < n {
-        let c = get(work, g, base + q, g.tags, 1);
-        let d = get(work, g, base + q, g.tags, 2);
-        put(work, g, base + q, g.tags, 1, d);
+        let c = get(work, g, base + q, g.tags, CLASS);
+        let d = get(work, g, base + q, g.tags, NEW);
+        put(work, g, base + q, g.tags, CLASS, d);
         changed = differs(changed, d, c);
         q += 1;
     }
@@ -176,10 +183,10 @@ fn digest_of(work: &[u16], g: Grid, base: usize, n: usize, q: usize) -> usize
     ensures { λ h. ⌜ h ≡ digest g (now (work .entry)) base q ⌝ }
 {
     let tags = g.tags;
-    let mut h = get(work, g, base + q, tags, 7);
+    let mut h = get(work, g, base + q, tags, FINAL);
     let mut a = 0;
     while a < tags {
-        h = (h * 31 + get(work, g, base + q, a, 1)) % 0x10000;
+        h = (h * 31 + get(work, g, base + q, a, OUTPUT)) % 0x10000;
         a += 1;
     }
     h
@@ -192,13 +199,13 @@ fn seat(work: &mut [u16], g: Grid, base: usize, n: usize, q: usize)
     ensures { λ _. ⌜ Seated g (now (work .entry)) (now (work .exit)) base n (q + 1) ⌝ }
 {
     let b = digest_of(work, g, base, n, q) % n;
-    let head = get(work, g, base + b, g.tags, 2);
+    let head = get(work, g, base + b, g.tags, HEAD);
     if head != 0 {
-        put(work, g, base + q, g.tags, 1, head - 1);
+        put(work, g, base + q, g.tags, CLASS, head - 1);
         return;
     }
-    put(work, g, base + b, g.tags, 2, q + 1);
-    put(work, g, base + q, g.tags, 1, q);
+    put(work, g, base + b, g.tags, HEAD, q + 1);
+    put(work, g, base + q, g.tags, CLASS, q);
 }
 
 fn seat_all(work: &mut [u16], g: Grid, base: usize, n: usize)
@@ -217,11 +224,11 @@ fn start_classes(work: &mut [u16], g: Grid, base: usize, n: usize)
     requires { ⌜ Ready g (now work) base n ⌝ }
     ensures { λ _. ⌜ Seated g (now (work .entry)) (now (work .exit)) base n n ⌝ }
 {
-    clear_notes(work, g, base, n, 2);
+    clear_notes(work, g, base, n, HEAD);
     seat_all(work, g, base, n);
 }
 
-// The classes of the n states in the rows from `base`, each in entry 1 of its row's last cell.
+// The classes of the n states in the rows from `base`, each noted in its row.
 pub fn merge(work: &mut [u16], g: Grid, base: usize, n: usize)
     requires { ⌜ Ready g (now work) base n ⌝ }
     requires { ⌜ Early (g .tags) (standing g (now work) base n) ⌝ }

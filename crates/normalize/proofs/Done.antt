@@ -1,27 +1,28 @@
 -- The phases of normalization, one after another.
-use Prim.Native.Nat.{ℕ, zero, suc, _+_, _-_, _≤_, _<_}
+use Prim.Native.Nat.{ℕ, _+_, _≤_, _<_}
 use native.Mathlib.Omega.{arith}
 use mathlib.Core.Path.{_≡_, refl, sym, ap, ap₂, _∙_, subst}
-use mathlib.Core.List.{List, [], _∷_, _++_}
+use mathlib.Core.List.{List, _++_}
 use lib.ListN.{length, take, drop, length-append}
 use lib.Seq.{length-take-le}
 use Rattle.words.specs.Word.{Prefix}
 use Rattle.words.proofs.Front.{begins-length}
-use Rattle.transducers.specs.Transducer.{Shape, puts}
-use Rattle.transducers.specs.Table.{Table, shape}
-use Rattle.transducers.specs.Canonical.{Same}
+use Rattle.transducers.specs.Transducer.{puts}
+use Rattle.transducers.specs.Table.{Table}
 use Rattle.transducers.specs.Tabulate.{table, Doing}
 use Rattle.transducers.specs.Normalize.{front, fronts, stripped, normalize, Consistent, Above}
 use Rattle.transducers.proofs.Normalize.{fronts-any, doing-normalize}
 use Rattle.workspace.specs.declared.Grid.{Grid}
-use Rattle.workspace.specs.Cells.{at, word, Sized, Inner, Kept, In-rows, Spare, Written}
+use Rattle.workspace.specs.Entries.{FINAL, FRONT}
+use Rattle.workspace.specs.Cells.{at, word, Sized, Inner, Kept, In-rows, Spare}
 use Rattle.workspace.specs.Holds.{Ready, StepAt, RowAt, Holds, tableAt, standing}
-use Rattle.workspace.proofs.Cells.{kept-then, kept-wider, word-kept, word-length, sized-kept}
+use Rattle.workspace.proofs.Regions.{kept-then, kept-wider, sized-kept}
+use Rattle.workspace.proofs.Words.{word-kept}
 use Rattle.workspace.proofs.Holds.{step-kept, length-at, holds-doing}
-use Rattle.normalize.specs.Fronts.{size, frontAt, Fronted, Lowered, Settled, Started}
+use Rattle.normalize.specs.Fronts.{size, frontAt, Fronted, Settled, Started}
 use Rattle.normalize.specs.Strip.{nextAt, strippedAt, Strip, Steps, Steps-stripped, Finals, Finals-stripped, Normalized}
 use Rattle.normalize.proofs.Meets.{take-prefix}
-use Rattle.workspace.proofs.Views.{in-table, row-below, final-is, final-size, final-inner, output-is, output-size, output-inner, next-is, next-below, next-at-below, same-table, ready-kept}
+use Rattle.workspace.proofs.Views.{in-table, final-is, final-size, final-inner, output-is, output-size, output-inner, next-is, next-below, next-at-below, same-table, ready-kept}
 use Rattle.normalize.proofs.Strips.{stripped-room}
 use Rattle.normalize.proofs.Lower.{fronted-lowered, fronted-start, above-start}
 
@@ -92,7 +93,7 @@ module _ (g : Grid) (U : List ℕ) (base n : ℕ) (ok : Fronted g U base n)
     pub finals-place : (base + n ≤ g .rows) × (8 ≤ g .depth)
     finals-place = (ok .ready .inside, omega (arith, ok .ready .room))
 
-    pub finals : (q : ℕ) → q < n → Inner g Y (base + q) (g .tags) 7 × (size g Y base q ≤ at g Y (base + q) (g .tags) 7)
+    pub finals : (q : ℕ) → q < n → Inner g Y (base + q) (g .tags) FINAL × (size g Y base q ≤ at g Y (base + q) (g .tags) FINAL)
     finals q h =
         let i = final-inner g U base n (ok .ready) q h in
         let e = last q 7 (omega (arith, i .inside)) in (
@@ -147,7 +148,7 @@ module _ (g : Grid) (U : List ℕ) (base n : ℕ) (ok : Fronted g U base n)
                 f .finals q h
                 ∙ ap₂ (λ (i : ℕ) (l : List ℕ). drop i l)
                 (last q 0 (omega (arith, ok .ready .room)) ∙ size-is q h)
-                (word-kept g (Steps base (base + n) (g .tags)) U Y (s .kept) (base + q) (g .tags) 7 (omega arith)
+                (word-kept g (Steps base (base + n) (g .tags)) U Y (s .kept) (base + q) (g .tags) FINAL (omega arith)
                 (final-inner g U base n (ok .ready) q h .inside) (λ e le i. omega (arith, i .2))
                 ∙ final-is g U base n (ok .ready) q h);
           }
@@ -174,8 +175,8 @@ module _ (g : Grid) (W : List ℕ) (base n : ℕ) (ok : Ready g W base n) (X U Y
         holds = subst (λ (t : Table). Holds g Z base (normalize (g .tags) t)) same
             (holds-normalized g U base n fronted (settled .rests) Y s Z f (settled .lowered .above (above-start g W base n ok X started)));
         kept =
-            then W X Z (kept-wider g (In-rows base (base + n)) (Spare g base (base + n) 0 1) W X (started .kept) (λ r c e i. (i .0, i .1)))
-            (then X U Z (kept-wider g (In-rows base (base + n)) (Spare g base (base + n) 0 1) X U (settled .lowered .kept) (λ r c e i. (i .0, i .1)))
+            then W X Z (kept-wider g (In-rows base (base + n)) (Spare g base (base + n) FRONT (FRONT + 1)) W X (started .kept) (λ r c e i. (i .0, i .1)))
+            (then X U Z (kept-wider g (In-rows base (base + n)) (Spare g base (base + n) FRONT (FRONT + 1)) X U (settled .lowered .kept) (λ r c e i. (i .0, i .1)))
             (then U Y Z (kept-wider g (In-rows base (base + n)) (Steps base (base + n) (g .tags)) U Y (s .kept) (λ r c e i. (i .0, i .1)))
             (kept-wider g (In-rows base (base + n)) (Finals g base (base + n)) Y Z (f .kept) (λ r c e i. (i .0, i .1)))));
       }

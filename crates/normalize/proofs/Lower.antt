@@ -20,9 +20,10 @@ use Rattle.transducers.proofs.Tabulate.{length-tabulate, at-tabulate}
 use Rattle.transducers.proofs.Rounds.{total-le, total-same}
 use Rattle.transducers.proofs.Normalize.{above-lowered}
 use Rattle.workspace.specs.declared.Grid.{Grid}
+use Rattle.workspace.specs.Entries.{NEXT, OUTPUT, FINAL, FRONT}
 use Rattle.workspace.specs.Cells.{at, word, Kept, Entry, Spare, Put, Got}
 use Rattle.workspace.specs.Holds.{Ready, standing}
-use Rattle.workspace.proofs.Cells.{kept-none, kept-then, kept-wider}
+use Rattle.workspace.proofs.Regions.{kept-none, kept-then, kept-wider}
 use Rattle.workspace.proofs.Holds.{length-at}
 use Rattle.normalize.specs.Fronts.{size, frontAt, Fronted, Rests, Lowered, Lesser, Turn, Either, Started}
 use Rattle.normalize.proofs.Meets.{meet-short, meet-stops, meet-goes, prefix-take, take-prefix}
@@ -36,8 +37,8 @@ module _ (g : Grid) (W : List ℕ) (base n : ℕ) (ok : Fronted g W base n) wher
   meeting-le q h o = omega (arith, begins-length (meet-left (frontAt g W base n q) o), front-long q h)
 
   -- what the front of q and the step on a have in common, as the code finds it
-  module _ (q a own long : ℕ) (h : q < n) (ha : a < g .tags) (is-own : own ≡ size g W base q) (is-long : long ≡ at g W (base + q) a 1) where
-    pub front-short : (j : ℕ) → own ≤ long → j ≡ length (meet (drop 0 (word g W (base + q) (g .tags) 7)) (take own (word g W (base + q) a 1)))
+  module _ (q a own long : ℕ) (h : q < n) (ha : a < g .tags) (is-own : own ≡ size g W base q) (is-long : long ≡ at g W (base + q) a OUTPUT) where
+    pub front-short : (j : ℕ) → own ≤ long → j ≡ length (meet (drop 0 (word g W (base + q) (g .tags) FINAL)) (take own (word g W (base + q) a OUTPUT)))
         → j ≡ length (meet (frontAt g W base n q) (standing g W base n .output q a ++ frontAt g W base n (standing g W base n .next q a)))
     front-short j le e =
         let S = standing g W base n in
@@ -45,7 +46,7 @@ module _ (g : Grid) (W : List ℕ) (base n : ℕ) (ok : Fronted g W base n) wher
         ∙ meet-short own (S .final q) (S .output q a) (frontAt g W base n (S .next q a)) (omega (arith, output-size g W base n (ok .ready) q a h ha))
         ∙ ap (λ (f : ℕ). length (meet (take f (S .final q)) (S .output q a ++ frontAt g W base n (S .next q a)))) is-own
 
-    module _ (j : ℕ) (lt : long ≤ own) (e : j ≡ length (meet (drop 0 (word g W (base + q) (g .tags) 7)) (take long (word g W (base + q) a 1)))) where
+    module _ (j : ℕ) (lt : long ≤ own) (e : j ≡ length (meet (drop 0 (word g W (base + q) (g .tags) FINAL)) (take long (word g W (base + q) a OUTPUT)))) where
       is-size : long ≡ length (standing g W base n .output q a)
       is-size = is-long ∙ output-size g W base n (ok .ready) q a h ha
 
@@ -61,14 +62,14 @@ module _ (g : Grid) (W : List ℕ) (base n : ℕ) (ok : Fronted g W base n) wher
           ∙ meet-stops own (S .final q) (S .output q a) (frontAt g W base n (S .next q a)) (omega (arith, is-size)) (omega (arith, is-size, in-words))
           ∙ ap (λ (f : ℕ). length (meet (take f (S .final q)) (S .output q a ++ frontAt g W base n (S .next q a)))) is-own
 
-      pub front-goes : (next other lower rest : ℕ) → long ≤ j → next ≡ at g W (base + q) a 0 → other ≡ size g W base next → lower ≡ min (own - long) other
-          → rest ≡ length (meet (drop long (word g W (base + q) (g .tags) 7)) (take lower (word g W (base + next) (g .tags) 7)))
+      pub front-goes : (next other lower rest : ℕ) → long ≤ j → next ≡ at g W (base + q) a NEXT → other ≡ size g W base next → lower ≡ min (own - long) other
+          → rest ≡ length (meet (drop long (word g W (base + q) (g .tags) FINAL)) (take lower (word g W (base + next) (g .tags) FINAL)))
           → long + rest ≡ length (meet (frontAt g W base n q) (standing g W base n .output q a ++ frontAt g W base n (standing g W base n .next q a)))
       front-goes next other lower rest le is-next is-other is-lower d =
           let S = standing g W base n in
           let to : next ≡ S .next q a = is-next ∙ next-is g W base n (ok .ready) q a h ha in
-          let at-next : word g W (base + next) (g .tags) 7 ≡ S .final (S .next q a) =
-          ap (λ (i : ℕ). word g W (base + i) (g .tags) 7) to ∙ final-is g W base n (ok .ready) (S .next q a) (next-below g W base n (ok .ready) q a h ha) in
+          let at-next : word g W (base + next) (g .tags) FINAL ≡ S .final (S .next q a) =
+          ap (λ (i : ℕ). word g W (base + i) (g .tags) FINAL) to ∙ final-is g W base n (ok .ready) (S .next q a) (next-below g W base n (ok .ready) q a h ha) in
           let m = size g W base (S .next q a) in
           let is-m : other ≡ m = is-other ∙ ap (size g W base) to in
           let e1 : rest ≡ length (meet (drop (length (S .output q a)) (S .final q)) (take (min (own - length (S .output q a)) m) (S .final (S .next q a)))) =
@@ -80,7 +81,7 @@ module _ (g : Grid) (W : List ℕ) (base n : ℕ) (ok : Fronted g W base n) wher
           ∙ ap (λ (f : ℕ). length (meet (take f (S .final q)) (S .output q a ++ frontAt g W base n (S .next q a)))) is-own
 
   pub lowered-none : Lowered g W W base n
-  lowered-none = record { kept = kept-none g (Spare g base (base + n) 0 1) W; less = λ q h. omega arith; above = λ a. a }
+  lowered-none = record { kept = kept-none g (Spare g base (base + n) FRONT (FRONT + 1)) W; less = λ q h. omega arith; above = λ a. a }
 
   -- an empty front rests
   pub turn-empty : (q own : ℕ) → own ≡ size g W base q → own ≡ 0 → Turn g W W base n ((a : ℕ) → a < g .tags → Rests g W base n q a) false
@@ -106,7 +107,7 @@ module _ (g : Grid) (W : List ℕ) (base n : ℕ) (ok : Fronted g W base n) wher
           rests = λ e. (refl, rw whole at (meet-right f o));
         }
 
-    pub turn-fall : (X : List ℕ) → j < own → Put g W X (base + q) (g .tags) 0 j → Turn g W X base n (Rests g W base n q a) true
+    pub turn-fall : (X : List ℕ) → j < own → Put g W X (base + q) (g .tags) FRONT j → Turn g W X base n (Rests g W base n q a) true
     turn-fall X lt p =
         record {
           lowered =
@@ -121,13 +122,13 @@ module _ (g : Grid) (W : List ℕ) (base n : ℕ) (ok : Fronted g W base n) wher
           rests = λ e. let z : _≡_ {A = ℕ} 0 1 = cc in absurd (omega arith);
         }
       where
-        kept : Kept g W X (Spare g base (base + n) 0 1)
+        kept : Kept g W X (Spare g base (base + n) FRONT (FRONT + 1))
         kept =
-            kept-wider g (Spare g base (base + n) 0 1) (Entry (base + q) (g .tags) 0) W X (p .kept)
+            kept-wider g (Spare g base (base + n) FRONT (FRONT + 1)) (Entry (base + q) (g .tags) FRONT) W X (p .kept)
             (λ r c e i. (omega (arith, i .0), omega (arith, i .0), i .1, omega arith, omega (arith, i .2)))
 
         other : (i : ℕ) → (i ≡ q → ⊥) → size g X base i ≡ size g W base i
-        other i ne = p .kept .same (base + i) (g .tags) 0 (omega arith) (omega (arith, ok .ready .room)) (λ e. ne (omega (arith, e .0)))
+        other i ne = p .kept .same (base + i) (g .tags) FRONT (omega arith) (omega (arith, ok .ready .room)) (λ e. ne (omega (arith, e .0)))
 
         low : (i : ℕ) → Dec (i ≡ q) → size g X base i ≤ size g W base i
         low i (yes e) = rw e (omega (arith, p .here))
@@ -162,7 +163,7 @@ module _ (g : Grid) (base n : ℕ) where
   pub lowered-then : (W X Y : List ℕ) → Lowered g W X base n → Lowered g X Y base n → Lowered g W Y base n
   lowered-then W X Y a b =
       record {
-        kept = kept-then g (Spare g base (base + n) 0 1) W X Y (a .kept) (b .kept);
+        kept = kept-then g (Spare g base (base + n) FRONT (FRONT + 1)) W X Y (a .kept) (b .kept);
         less = λ q h. omega (arith, a .less q h, b .less q h);
         above = λ up. b .above (a .above up);
       }
@@ -236,30 +237,30 @@ module _ (g : Grid) (base n : ℕ) where
 
 -- the fronts that the work starts with: those of the states below q are set
 pub record Starting (g : Grid) (W X : List ℕ) (base n q : ℕ) : Type 0 where
-  pub kept : Kept g W X (Spare g base (base + n) 0 1)
+  pub kept : Kept g W X (Spare g base (base + n) FRONT (FRONT + 1))
   pub whole : (i : ℕ) → i < q → size g X base i ≡ length (standing g W base n .final i)
 
 module _ (g : Grid) (W : List ℕ) (base n : ℕ) (ok : Ready g W base n) where
   pub starting-none : Starting g W W base n 0
-  starting-none = record { kept = kept-none g (Spare g base (base + n) 0 1) W; whole = λ i h. absurd (omega arith) }
+  starting-none = record { kept = kept-none g (Spare g base (base + n) FRONT (FRONT + 1)) W; whole = λ i h. absurd (omega arith) }
 
-  pub starting-next : (X Y : List ℕ) (q long : ℕ) → q < n → Starting g W X base n q → Got g X (base + q) (g .tags) 7 long
-      → Put g X Y (base + q) (g .tags) 0 long → Starting g W Y base n (q + 1)
+  pub starting-next : (X Y : List ℕ) (q long : ℕ) → q < n → Starting g W X base n q → Got g X (base + q) (g .tags) FINAL long
+      → Put g X Y (base + q) (g .tags) FRONT long → Starting g W Y base n (q + 1)
   starting-next X Y q long h s got p =
       record {
         kept =
-            kept-then g (Spare g base (base + n) 0 1) W X Y (s .kept)
-            (kept-wider g (Spare g base (base + n) 0 1) (Entry (base + q) (g .tags) 0) X Y (p .kept)
+            kept-then g (Spare g base (base + n) FRONT (FRONT + 1)) W X Y (s .kept)
+            (kept-wider g (Spare g base (base + n) FRONT (FRONT + 1)) (Entry (base + q) (g .tags) FRONT) X Y (p .kept)
             (λ r c e i. (omega (arith, i .0), omega (arith, i .0), i .1, omega arith, omega (arith, i .2))));
         whole = λ i hi. go i (below-suc i q (omega arith));
       }
     where
       go : (i : ℕ) → (i < q) ⊎ (i ≡ q) → size g Y base i ≡ length (standing g W base n .final i)
-      go i (inl hi) = p .kept .same (base + i) (g .tags) 0 (omega arith) (omega (arith, ok .room)) (λ e. omega (arith, e .0)) ∙ s .whole i hi
+      go i (inl hi) = p .kept .same (base + i) (g .tags) FRONT (omega arith) (omega (arith, ok .room)) (λ e. omega (arith, e .0)) ∙ s .whole i hi
       go i (inr e) =
           rw e
           (p .here ∙ got .is
-          ∙ s .kept .same (base + q) (g .tags) 7 (omega arith) (omega (arith, ok .room)) (λ i. omega (arith, i .4))
+          ∙ s .kept .same (base + q) (g .tags) FINAL (omega arith) (omega (arith, ok .room)) (λ i. omega (arith, i .4))
           ∙ final-size g W base n ok q h)
 
   pub fronted-start : (X : List ℕ) → Started g W X base n → Fronted g X base n

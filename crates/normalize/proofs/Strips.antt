@@ -1,68 +1,70 @@
 -- Steps and final words without their states' fronts.
-use Prim.Native.Nat.{ℕ, zero, suc, _+_, _-_, _≤_, _<_}
+use Prim.Native.Nat.{ℕ, suc, _+_, _-_, _≤_, _<_}
 use native.Mathlib.Omega.{arith}
-use mathlib.Core.Path.{_≡_, refl, sym, ap, ap₂, _∙_, subst}
+use mathlib.Core.Path.{_≡_, sym, ap, ap₂, _∙_}
 use mathlib.Core.Logic.{_⊎_, inl, inr}
-use mathlib.Core.List.{List, [], _∷_, _++_}
+use mathlib.Core.List.{List, [], _++_}
 use lib.ListN.{length, take, drop, length-append, length-drop}
 use lib.Seq.{drop-append-le, drop-append-add, length-take-le}
 use Rattle.words.proofs.Word.{below-suc}
 use Rattle.workspace.specs.declared.Grid.{Grid}
-use Rattle.workspace.specs.Cells.{at, word, Sized, Inner, Kept, Cell, Got, Written, part}
+use Rattle.workspace.specs.Entries.{NEXT, OUTPUT, FINAL, FRONT}
+use Rattle.workspace.specs.Cells.{at, word, Inner, Kept, Cell, Got, Written, part}
 use Rattle.workspace.specs.Holds.{StepAt}
-use Rattle.workspace.proofs.Cells.{kept-none, kept-then, kept-wider, word-length, word-kept, sized-kept, written-more, written-is}
+use Rattle.workspace.proofs.Regions.{kept-none, kept-then, kept-wider, sized-kept}
+use Rattle.workspace.proofs.Words.{word-length, word-kept, written-more, written-is}
 use Rattle.workspace.proofs.Holds.{step-kept}
 use Rattle.normalize.specs.Fronts.{size}
 use Rattle.normalize.specs.Strip.{nextAt, strippedAt, Strip, Steps, Row-stripped, Steps-stripped, Finals, Finals-stripped}
 
 -- one step
 module _ (g : Grid) (W : List ℕ) (base q a : ℕ) (ok : Strip g W base q a) where
-  to-word : (X : List ℕ) → Kept g W X (Cell (base + q) a 1)
-      → word g X (base + nextAt g W base q a) (g .tags) 7 ≡ word g W (base + nextAt g W base q a) (g .tags) 7
+  to-word : (X : List ℕ) → Kept g W X (Cell (base + q) a OUTPUT)
+      → word g X (base + nextAt g W base q a) (g .tags) FINAL ≡ word g W (base + nextAt g W base q a) (g .tags) FINAL
   to-word X k =
-      word-kept g (Cell (base + q) a 1) W X k (base + nextAt g W base q a) (g .tags) 7 (omega arith) (ok .to .inside) (λ e h i. omega (arith, i .1, ok .tag))
+      word-kept g (Cell (base + q) a OUTPUT) W X k (base + nextAt g W base q a) (g .tags) FINAL (omega arith) (ok .to .inside) (λ e h i. omega (arith, i .1, ok .tag))
 
   -- the word to append stands where it did
-  pub to-inner : (X : List ℕ) → Kept g W X (Cell (base + q) a 1)
-      → Inner g X (base + nextAt g W base q a) (g .tags) 7 × (at g X (base + nextAt g W base q a) (g .tags) 7 ≡ at g W (base + nextAt g W base q a) (g .tags) 7)
+  pub to-inner : (X : List ℕ) → Kept g W X (Cell (base + q) a OUTPUT)
+      → Inner g X (base + nextAt g W base q a) (g .tags) FINAL × (at g X (base + nextAt g W base q a) (g .tags) FINAL ≡ at g W (base + nextAt g W base q a) (g .tags) FINAL)
   to-inner X k =
-      let e = k .same (base + nextAt g W base q a) (g .tags) 7 (omega arith) (omega (arith, ok .to .inside)) (λ i. omega (arith, i .1, ok .tag)) in
+      let e = k .same (base + nextAt g W base q a) (g .tags) FINAL (omega arith) (omega (arith, ok .to .inside)) (λ i. omega (arith, i .1, ok .tag)) in
       (record { row = ok .to .row; cell = ok .to .cell; inside = omega (arith, e, ok .to .inside) }, e)
 
-  pub strip-in : (X Y : List ℕ) → size g W base q ≤ at g W (base + q) a 1 → Written g W X (base + q) a 1 (drop (size g W base q) (word g W (base + q) a 1))
-      → Written g X Y (base + q) a 1 (word g X (base + q) a 1 ++ part 0 (size g W base (nextAt g W base q a)) (word g X (base + nextAt g W base q a) (g .tags) 7))
-      → Written g W Y (base + q) a 1 (strippedAt g W base q a)
+  pub strip-in : (X Y : List ℕ) → size g W base q ≤ at g W (base + q) a OUTPUT → Written g W X (base + q) a OUTPUT (drop (size g W base q) (word g W (base + q) a OUTPUT))
+      → Written g X Y (base + q) a OUTPUT (word g X (base + q) a OUTPUT ++ part 0 (size g W base (nextAt g W base q a)) (word g X (base + nextAt g W base q a) (g .tags) FINAL))
+      → Written g W Y (base + q) a OUTPUT (strippedAt g W base q a)
   strip-in X Y le one two =
-      written-is g W Y (base + q) a 1 _ _
-      (ap (λ (l : List ℕ). drop (size g W base q) (word g W (base + q) a 1) ++ take (size g W base (nextAt g W base q a)) l) (to-word X (one .kept))
-      ∙ sym (drop-append-le (size g W base q) (word g W (base + q) a 1) (take (size g W base (nextAt g W base q a)) (word g W (base + nextAt g W base q a) (g .tags) 7))
-      (omega (arith, word-length g W (base + q) a 1))))
-      (written-more g W X (base + q) a 1 Y _ _ one two)
+      written-is g W Y (base + q) a OUTPUT _ _
+      (ap (λ (l : List ℕ). drop (size g W base q) (word g W (base + q) a OUTPUT) ++ take (size g W base (nextAt g W base q a)) l) (to-word X (one .kept))
+      ∙ sym (drop-append-le (size g W base q) (word g W (base + q) a OUTPUT) (take (size g W base (nextAt g W base q a)) (word g W (base + nextAt g W base q a) (g .tags) FINAL))
+      (omega (arith, word-length g W (base + q) a OUTPUT))))
+      (written-more g W X (base + q) a OUTPUT Y _ _ one two)
 
-  pub strip-past : (X Y : List ℕ) → at g W (base + q) a 1 ≤ size g W base q → Written g W X (base + q) a 1 []
-      → Written g X Y (base + q) a 1
-      (word g X (base + q) a 1 ++ part (size g W base q - at g W (base + q) a 1) (size g W base (nextAt g W base q a)) (word g X (base + nextAt g W base q a) (g .tags) 7))
-      → Written g W Y (base + q) a 1 (strippedAt g W base q a)
+  pub strip-past : (X Y : List ℕ) → at g W (base + q) a OUTPUT ≤ size g W base q → Written g W X (base + q) a OUTPUT []
+      → Written g X Y (base + q) a OUTPUT
+      (word g X (base + q) a OUTPUT ++ part (size g W base q - at g W (base + q) a OUTPUT) (size g W base (nextAt g W base q a)) (word g X (base + nextAt g W base q a) (g .tags) FINAL))
+      → Written g W Y (base + q) a OUTPUT (strippedAt g W base q a)
   strip-past X Y le one two =
-      let o = word g W (base + q) a 1 in
-      let z = take (size g W base (nextAt g W base q a)) (word g W (base + nextAt g W base q a) (g .tags) 7) in
-      let e : size g W base q ≡ length o + (size g W base q - at g W (base + q) a 1) = omega (arith, word-length g W (base + q) a 1) in
-      written-is g W Y (base + q) a 1 _ _
-      (ap (λ (l : List ℕ). drop (size g W base q - at g W (base + q) a 1) (take (size g W base (nextAt g W base q a)) l)) (to-word X (one .kept))
-      ∙ sym (ap (λ (i : ℕ). drop i (o ++ z)) e ∙ drop-append-add o z (size g W base q - at g W (base + q) a 1)))
-      (written-more g W X (base + q) a 1 Y _ _ one two)
+      let o = word g W (base + q) a OUTPUT in
+      let z = take (size g W base (nextAt g W base q a)) (word g W (base + nextAt g W base q a) (g .tags) FINAL) in
+      let e : size g W base q ≡ length o + (size g W base q - at g W (base + q) a OUTPUT) = omega (arith, word-length g W (base + q) a OUTPUT) in
+      written-is g W Y (base + q) a OUTPUT _ _
+      (ap (λ (l : List ℕ). drop (size g W base q - at g W (base + q) a OUTPUT) (take (size g W base (nextAt g W base q a)) l)) (to-word X (one .kept))
+      ∙ sym (ap (λ (i : ℕ). drop i (o ++ z)) e ∙ drop-append-add o z (size g W base q - at g W (base + q) a OUTPUT)))
+      (written-more g W X (base + q) a OUTPUT Y _ _ one two)
 
   pub stripped-room : length (strippedAt g W base q a) + 2 ≤ g .depth
   stripped-room =
-      let o = word g W (base + q) a 1 in
-      let x = word g W (base + nextAt g W base q a) (g .tags) 7 in
+      let o = word g W (base + q) a OUTPUT in
+      let x = word g W (base + nextAt g W base q a) (g .tags) FINAL in
       let z = take (size g W base (nextAt g W base q a)) x in
       omega (
         arith,
         length-drop (size g W base q) (o ++ z),
         length-append o z,
-        word-length g W (base + q) a 1,
-        length-take-le (size g W base (nextAt g W base q a)) x (omega (arith, ok .front, word-length g W (base + nextAt g W base q a) (g .tags) 7)),
+        word-length g W (base + q) a OUTPUT,
+        length-take-le (size g W base (nextAt g W base q a)) x (omega (arith, ok .front, word-length g W (base + nextAt g W base q a) (g .tags) FINAL)),
         ok .room,
       )
 
@@ -73,28 +75,28 @@ module _ (g : Grid) (W : List ℕ) (base q a : ℕ) (ok : Strip g W base q a) wh
     deep = omega (arith, ok .to .inside)
 
     pub next-same : nextAt g X base q a ≡ nextAt g W base q a
-    next-same = k .same (base + q) a 0 (omega (arith, ok .tag)) (omega (arith, deep)) (out-cell 0)
+    next-same = k .same (base + q) a NEXT (omega (arith, ok .tag)) (omega (arith, deep)) (out-cell 0)
 
     size-same : (i : ℕ) → size g X base i ≡ size g W base i
-    size-same i = k .same (base + i) (g .tags) 0 (omega arith) (omega (arith, deep)) (out-last (base + i) 0)
+    size-same i = k .same (base + i) (g .tags) FRONT (omega arith) (omega (arith, deep)) (out-last (base + i) 0)
 
-    long-same : at g X (base + q) a 1 ≡ at g W (base + q) a 1
-    long-same = k .same (base + q) a 1 (omega (arith, ok .tag)) (omega (arith, deep)) (out-cell 1)
+    long-same : at g X (base + q) a OUTPUT ≡ at g W (base + q) a OUTPUT
+    long-same = k .same (base + q) a OUTPUT (omega (arith, ok .tag)) (omega (arith, deep)) (out-cell 1)
 
-    final-same : at g X (base + nextAt g X base q a) (g .tags) 7 ≡ at g W (base + nextAt g W base q a) (g .tags) 7
+    final-same : at g X (base + nextAt g X base q a) (g .tags) FINAL ≡ at g W (base + nextAt g W base q a) (g .tags) FINAL
     final-same =
-        k .same (base + nextAt g X base q a) (g .tags) 7 (omega arith) (omega (arith, deep)) (out-last (base + nextAt g X base q a) 7)
-        ∙ ap (λ (i : ℕ). at g W (base + i) (g .tags) 7) next-same
+        k .same (base + nextAt g X base q a) (g .tags) FINAL (omega arith) (omega (arith, deep)) (out-last (base + nextAt g X base q a) 7)
+        ∙ ap (λ (i : ℕ). at g W (base + i) (g .tags) FINAL) next-same
 
     other-same : size g X base (nextAt g X base q a) ≡ size g W base (nextAt g W base q a)
     other-same = size-same (nextAt g X base q a) ∙ ap (size g W base) next-same
 
     pub stripped-same : strippedAt g X base q a ≡ strippedAt g W base q a
     stripped-same =
-        let x-same : word g X (base + nextAt g X base q a) (g .tags) 7 ≡ word g W (base + nextAt g W base q a) (g .tags) 7 =
-        ap (λ (i : ℕ). word g X (base + i) (g .tags) 7) next-same
-        ∙ word-kept g P W X k (base + nextAt g W base q a) (g .tags) 7 (omega arith) (ok .to .inside) (λ e h. out-last (base + nextAt g W base q a) e) in
-        let o-same = word-kept g P W X k (base + q) a 1 (omega (arith, ok .tag)) (ok .from .inside) (λ e h. out-cell e) in
+        let x-same : word g X (base + nextAt g X base q a) (g .tags) FINAL ≡ word g W (base + nextAt g W base q a) (g .tags) FINAL =
+        ap (λ (i : ℕ). word g X (base + i) (g .tags) FINAL) next-same
+        ∙ word-kept g P W X k (base + nextAt g W base q a) (g .tags) FINAL (omega arith) (ok .to .inside) (λ e h. out-last (base + nextAt g W base q a) e) in
+        let o-same = word-kept g P W X k (base + q) a OUTPUT (omega (arith, ok .tag)) (ok .from .inside) (λ e h. out-cell e) in
         ap₂ (λ (i : ℕ) (l : List ℕ). drop i l) (size-same q)
         (ap₂ (λ (l m : List ℕ). l ++ m) o-same (ap₂ (λ (i : ℕ) (l : List ℕ). take i l) other-same x-same))
 
@@ -111,25 +113,25 @@ module _ (g : Grid) (W : List ℕ) (base q a : ℕ) (ok : Strip g W base q a) wh
         }
 
   -- the same by the numbers that were read
-  module _ (own long next other : ℕ) (is-own : own ≡ size g W base q) (is-long : long ≡ at g W (base + q) a 1) (is-next : next ≡ nextAt g W base q a)
+  module _ (own long next other : ℕ) (is-own : own ≡ size g W base q) (is-long : long ≡ at g W (base + q) a OUTPUT) (is-next : next ≡ nextAt g W base q a)
       (is-other : other ≡ size g W base next) where
     other-is : other ≡ size g W base (nextAt g W base q a)
     other-is = is-other ∙ ap (size g W base) is-next
 
-    pub got-to : (X : List ℕ) → Kept g W X (Cell (base + q) a 1)
-        → Inner g X (base + next) (g .tags) 7 × (other ≤ at g X (base + next) (g .tags) 7) × (own ≤ long + other) × (long + other + 2 ≤ g .depth)
+    pub got-to : (X : List ℕ) → Kept g W X (Cell (base + q) a OUTPUT)
+        → Inner g X (base + next) (g .tags) FINAL × (other ≤ at g X (base + next) (g .tags) FINAL) × (own ≤ long + other) × (long + other + 2 ≤ g .depth)
     got-to X k =
         let i = to-inner X k in
         (rw is-next (i .0), rw is-next (omega (arith, i .1, other-is, ok .front)), omega (arith, other-is, ok .covers), omega (arith, other-is, ok .room))
 
-    pub got-in : (X Y : List ℕ) → own ≤ long → Written g W X (base + q) a 1 (drop own (word g W (base + q) a 1))
-        → Written g X Y (base + q) a 1 (word g X (base + q) a 1 ++ part 0 other (word g X (base + next) (g .tags) 7))
-        → Written g W Y (base + q) a 1 (strippedAt g W base q a)
+    pub got-in : (X Y : List ℕ) → own ≤ long → Written g W X (base + q) a OUTPUT (drop own (word g W (base + q) a OUTPUT))
+        → Written g X Y (base + q) a OUTPUT (word g X (base + q) a OUTPUT ++ part 0 other (word g X (base + next) (g .tags) FINAL))
+        → Written g W Y (base + q) a OUTPUT (strippedAt g W base q a)
     got-in X Y le one two = strip-in X Y (omega arith) (rw is-own at one) (rw (other-is, is-next) at two)
 
-    pub got-past : (X Y : List ℕ) → long ≤ own → Written g W X (base + q) a 1 []
-        → Written g X Y (base + q) a 1 (word g X (base + q) a 1 ++ part (own - long) other (word g X (base + next) (g .tags) 7))
-        → Written g W Y (base + q) a 1 (strippedAt g W base q a)
+    pub got-past : (X Y : List ℕ) → long ≤ own → Written g W X (base + q) a OUTPUT []
+        → Written g X Y (base + q) a OUTPUT (word g X (base + q) a OUTPUT ++ part (own - long) other (word g X (base + next) (g .tags) FINAL))
+        → Written g W Y (base + q) a OUTPUT (strippedAt g W base q a)
     got-past X Y le one two = strip-past X Y (omega arith) one (rw (is-own, is-long, other-is, is-next) at two)
 
 -- the steps of a state
@@ -147,25 +149,25 @@ module _ (g : Grid) (W : List ℕ) (base q : ℕ) (ok : (a : ℕ) → a < g .tag
     pub row-strip : Strip g X base q a
     row-strip = strip-kept g W base q a (ok a ha) X (Steps (base + q) (base + q + 1) a) (s .kept) out-cell out-last
 
-    pub row-next : (Y : List ℕ) → Written g X Y (base + q) a 1 (strippedAt g X base q a) → Row-stripped g W Y base q (a + 1)
+    pub row-next : (Y : List ℕ) → Written g X Y (base + q) a OUTPUT (strippedAt g X base q a) → Row-stripped g W Y base q (a + 1)
     row-next Y w =
         record {
           kept =
               kept-then g (Steps (base + q) (base + q + 1) (a + 1)) W X Y
               (kept-wider g (Steps (base + q) (base + q + 1) (a + 1)) (Steps (base + q) (base + q + 1) a) W X (s .kept) (λ r c e i. (i .0, i .1, omega (arith, i .2))))
-              (kept-wider g (Steps (base + q) (base + q + 1) (a + 1)) (Cell (base + q) a 1) X Y (w .kept)
+              (kept-wider g (Steps (base + q) (base + q + 1) (a + 1)) (Cell (base + q) a OUTPUT) X Y (w .kept)
               (λ r c e i. (omega (arith, i .0), omega (arith, i .0), omega (arith, i .1))));
           steps = λ b h. go b (below-suc b a (omega arith));
         }
       where
         go : (b : ℕ) → (b < a) ⊎ (b ≡ a) → StepAt g Y (base + q) b (nextAt g W base q b) (strippedAt g W base q b)
         go b (inl h) =
-            step-kept g (Cell (base + q) a 1) X Y (w .kept) (base + q) b (nextAt g W base q b) (strippedAt g W base q b) (s .steps b h) (omega arith)
+            step-kept g (Cell (base + q) a OUTPUT) X Y (w .kept) (base + q) b (nextAt g W base q b) (strippedAt g W base q b) (s .steps b h) (omega arith)
             (stripped-room g W base q b (ok b (omega arith))) (λ e i. omega (arith, i .1))
         go b (inr d) =
             rw d
             (record {
-              next-is = w .kept .same (base + q) a 0 (omega arith) (omega (arith, ok a ha .to .inside)) (λ i. omega (arith, i .2))
+              next-is = w .kept .same (base + q) a NEXT (omega arith) (omega (arith, ok a ha .to .inside)) (λ i. omega (arith, i .2))
                   ∙ next-same g W base q a (ok a ha) X (Steps (base + q) (base + q + 1) a) (s .kept) out-cell out-last;
               output-is = w .here ∙ stripped-same g W base q a (ok a ha) X (Steps (base + q) (base + q + 1) a) (s .kept) out-cell out-last;
             })
@@ -209,46 +211,46 @@ module _ (g : Grid) (W : List ℕ) (base n : ℕ) (ok : (q a : ℕ) → q < n �
 
 -- the final words
 module _ (g : Grid) (W : List ℕ) (base n : ℕ)
-    (ok : (q : ℕ) → q < n → Inner g W (base + q) (g .tags) 7 × (size g W base q ≤ at g W (base + q) (g .tags) 7)) where
+    (ok : (q : ℕ) → q < n → Inner g W (base + q) (g .tags) FINAL × (size g W base q ≤ at g W (base + q) (g .tags) FINAL)) where
   pub finals-start : Finals-stripped g W W base 0
   finals-start = record { kept = kept-none g (Finals g base (base + 0)) W; finals = λ q h. absurd (omega arith) }
 
   module _ (X : List ℕ) (q : ℕ) (hq : q < n) (s : Finals-stripped g W X base q) where
-    same-long : at g X (base + q) (g .tags) 7 ≡ at g W (base + q) (g .tags) 7
-    same-long = s .kept .same (base + q) (g .tags) 7 (omega arith) (omega (arith, ok q hq .0 .inside)) (λ i. omega (arith, i .1))
+    same-long : at g X (base + q) (g .tags) FINAL ≡ at g W (base + q) (g .tags) FINAL
+    same-long = s .kept .same (base + q) (g .tags) FINAL (omega arith) (omega (arith, ok q hq .0 .inside)) (λ i. omega (arith, i .1))
 
     same-own : size g X base q ≡ size g W base q
-    same-own = s .kept .same (base + q) (g .tags) 0 (omega arith) (omega (arith, ok q hq .0 .inside)) (λ i. omega (arith, i .3))
+    same-own = s .kept .same (base + q) (g .tags) FRONT (omega arith) (omega (arith, ok q hq .0 .inside)) (λ i. omega (arith, i .3))
 
-    pub finals-inner : Inner g X (base + q) (g .tags) 7
+    pub finals-inner : Inner g X (base + q) (g .tags) FINAL
     finals-inner = record { row = ok q hq .0 .row; cell = omega arith; inside = omega (arith, same-long, ok q hq .0 .inside) }
 
-    pub finals-own : (own : ℕ) → Got g X (base + q) (g .tags) 0 own → own ≤ at g X (base + q) (g .tags) 7
+    pub finals-own : (own : ℕ) → Got g X (base + q) (g .tags) FRONT own → own ≤ at g X (base + q) (g .tags) FINAL
     finals-own own got = omega (arith, got .is, same-own, same-long, ok q hq .1)
 
-    pub finals-next : (Y : List ℕ) (own : ℕ) → Got g X (base + q) (g .tags) 0 own
-        → Written g X Y (base + q) (g .tags) 7 (drop own (word g X (base + q) (g .tags) 7)) → Finals-stripped g W Y base (q + 1)
+    pub finals-next : (Y : List ℕ) (own : ℕ) → Got g X (base + q) (g .tags) FRONT own
+        → Written g X Y (base + q) (g .tags) FINAL (drop own (word g X (base + q) (g .tags) FINAL)) → Finals-stripped g W Y base (q + 1)
     finals-next Y own got w =
         record {
           kept =
               kept-then g (Finals g base (base + (q + 1))) W X Y
               (kept-wider g (Finals g base (base + (q + 1))) (Finals g base (base + q)) W X (s .kept) (λ r c e i. (i .0, omega (arith, i .1), i .2, i .3)))
-              (kept-wider g (Finals g base (base + (q + 1))) (Cell (base + q) (g .tags) 7) X Y (w .kept)
+              (kept-wider g (Finals g base (base + (q + 1))) (Cell (base + q) (g .tags) FINAL) X Y (w .kept)
               (λ r c e i. (omega (arith, i .0), omega (arith, i .0), i .1, i .2)));
           finals = λ p h. go p (below-suc p q (omega arith));
         }
       where
-        go : (p : ℕ) → (p < q) ⊎ (p ≡ q) → word g Y (base + p) (g .tags) 7 ≡ drop (size g W base p) (word g W (base + p) (g .tags) 7)
+        go : (p : ℕ) → (p < q) ⊎ (p ≡ q) → word g Y (base + p) (g .tags) FINAL ≡ drop (size g W base p) (word g W (base + p) (g .tags) FINAL)
         go p (inl h) =
             let hp : p < n = omega arith in
             let before = s .finals p h in
-            word-kept g (Cell (base + q) (g .tags) 7) X Y (w .kept) (base + p) (g .tags) 7 (omega arith)
+            word-kept g (Cell (base + q) (g .tags) FINAL) X Y (w .kept) (base + p) (g .tags) FINAL (omega arith)
             (omega (
               arith,
-              word-length g X (base + p) (g .tags) 7,
+              word-length g X (base + p) (g .tags) FINAL,
               ap length before,
-              length-drop (size g W base p) (word g W (base + p) (g .tags) 7),
-              word-length g W (base + p) (g .tags) 7,
+              length-drop (size g W base p) (word g W (base + p) (g .tags) FINAL),
+              word-length g W (base + p) (g .tags) FINAL,
               ok p hp .0 .inside,
             )) (λ e le i. omega (arith, i .0))
             ∙ before
@@ -256,4 +258,4 @@ module _ (g : Grid) (W : List ℕ) (base n : ℕ)
             rw d
             (w .here
             ∙ ap₂ (λ (i : ℕ) (l : List ℕ). drop i l) (got .is ∙ same-own)
-            (word-kept g (Finals g base (base + q)) W X (s .kept) (base + q) (g .tags) 7 (omega arith) (ok q hq .0 .inside) (λ e le i. omega (arith, i .1))))
+            (word-kept g (Finals g base (base + q)) W X (s .kept) (base + q) (g .tags) FINAL (omega arith) (ok q hq .0 .inside) (λ e le i. omega (arith, i .1))))

@@ -8,11 +8,12 @@ use lib.ListN.{length, take}
 use Rattle.words.specs.Word.{Prefix}
 use Rattle.transducers.specs.Normalize.{Above}
 use Rattle.workspace.specs.declared.Grid.{Grid}
+use Rattle.workspace.specs.Entries.{FRONT}
 use Rattle.workspace.specs.Cells.{at, Kept, Spare}
 use Rattle.workspace.specs.Holds.{Ready, standing}
 
 abbrev pub size : Grid → List ℕ → ℕ → ℕ → ℕ
-size g W base q = at g W (base + q) (g .tags) 0
+size g W base q = at g W (base + q) (g .tags) FRONT
 
 abbrev pub frontAt : Grid → List ℕ → ℕ → ℕ → ℕ → List ℕ
 frontAt g W base n q = take (size g W base q) (standing g W base n .final q)
@@ -28,7 +29,7 @@ Rests g W base n q a = Prefix (frontAt g W base n q) (standing g W base n .outpu
 
 -- fronts were lowered, and not too much
 pub record Lowered (g : Grid) (W X : List ℕ) (base n : ℕ) : Type 0 where
-  pub kept : Kept g W X (Spare g base (base + n) 0 1)
+  pub kept : Kept g W X (Spare g base (base + n) FRONT (FRONT + 1))
   pub less : (q : ℕ) → q < n → size g X base q ≤ size g W base q
   pub above : Above (g .tags) (standing g W base n) (frontAt g W base n) → Above (g .tags) (standing g X base n) (frontAt g X base n)
 
@@ -54,5 +55,5 @@ pub record Settled (g : Grid) (W X : List ℕ) (base n : ℕ) : Type 0 where
 
 -- the fronts are the final words
 pub record Started (g : Grid) (W X : List ℕ) (base n : ℕ) : Type 0 where
-  pub kept : Kept g W X (Spare g base (base + n) 0 1)
+  pub kept : Kept g W X (Spare g base (base + n) FRONT (FRONT + 1))
   pub whole : (q : ℕ) → q < n → size g X base q ≡ length (standing g W base n .final q)

@@ -2,30 +2,31 @@
 use Prim.Native.Nat.{ℕ, _+_, _≤_, _<_}
 use mathlib.Core.Path.{_≡_}
 use mathlib.Core.List.{List, _++_}
-use lib.ListN.{length, take, drop}
+use lib.ListN.{take, drop}
 use Rattle.transducers.specs.Normalize.{normalize}
 use Rattle.workspace.specs.declared.Grid.{Grid}
+use Rattle.workspace.specs.Entries.{NEXT, OUTPUT, FINAL}
 use Rattle.workspace.specs.Cells.{at, word, Sized, Inner, Kept, In-rows}
 use Rattle.workspace.specs.Holds.{StepAt, Holds, tableAt}
 use Rattle.normalize.specs.Fronts.{size}
 
 -- the step of q on a: its next state, and its output with the next state's front, without its own
 abbrev pub nextAt : Grid → List ℕ → ℕ → ℕ → ℕ → ℕ
-nextAt g W base q a = at g W (base + q) a 0
+nextAt g W base q a = at g W (base + q) a NEXT
 
 abbrev pub strippedAt : Grid → List ℕ → ℕ → ℕ → ℕ → List ℕ
 strippedAt g W base q a =
-    drop (size g W base q) (word g W (base + q) a 1 ++ take (size g W base (nextAt g W base q a)) (word g W (base + nextAt g W base q a) (g .tags) 7))
+    drop (size g W base q) (word g W (base + q) a OUTPUT ++ take (size g W base (nextAt g W base q a)) (word g W (base + nextAt g W base q a) (g .tags) FINAL))
 
 -- the step can be stripped
 pub record Strip (g : Grid) (W : List ℕ) (base q a : ℕ) : Type 0 where
   pub sized : Sized g W
   pub tag : a < g .tags
-  pub from : Inner g W (base + q) a 1
-  pub to : Inner g W (base + nextAt g W base q a) (g .tags) 7
-  pub front : size g W base (nextAt g W base q a) ≤ at g W (base + nextAt g W base q a) (g .tags) 7
-  pub covers : size g W base q ≤ at g W (base + q) a 1 + size g W base (nextAt g W base q a)
-  pub room : at g W (base + q) a 1 + size g W base (nextAt g W base q a) + 2 ≤ g .depth
+  pub from : Inner g W (base + q) a OUTPUT
+  pub to : Inner g W (base + nextAt g W base q a) (g .tags) FINAL
+  pub front : size g W base (nextAt g W base q a) ≤ at g W (base + nextAt g W base q a) (g .tags) FINAL
+  pub covers : size g W base q ≤ at g W (base + q) a OUTPUT + size g W base (nextAt g W base q a)
+  pub room : at g W (base + q) a OUTPUT + size g W base (nextAt g W base q a) + 2 ≤ g .depth
 
 -- steps in some rows and cells
 abbrev pub Steps : ℕ → ℕ → ℕ → ℕ → ℕ → ℕ → Type 0
@@ -43,12 +44,12 @@ pub record Steps-stripped (g : Grid) (W X : List ℕ) (base j : ℕ) : Type 0 wh
 
 -- final words in some rows
 abbrev pub Finals : Grid → ℕ → ℕ → ℕ → ℕ → ℕ → Type 0
-Finals g lo hi r' c' e' = (lo ≤ r') × (r' < hi) × (c' ≡ g .tags) × (7 ≤ e')
+Finals g lo hi r' c' e' = (lo ≤ r') × (r' < hi) × (c' ≡ g .tags) × (FINAL ≤ e')
 
 -- the final words of the states below j were stripped
 pub record Finals-stripped (g : Grid) (W X : List ℕ) (base j : ℕ) : Type 0 where
   pub kept : Kept g W X (Finals g base (base + j))
-  pub finals : (q : ℕ) → q < j → word g X (base + q) (g .tags) 7 ≡ drop (size g W base q) (word g W (base + q) (g .tags) 7)
+  pub finals : (q : ℕ) → q < j → word g X (base + q) (g .tags) FINAL ≡ drop (size g W base q) (word g W (base + q) (g .tags) FINAL)
 
 -- the rows hold the normalized table
 pub record Normalized (g : Grid) (W X : List ℕ) (base n : ℕ) : Type 0 where

@@ -1,8 +1,12 @@
 // Normalization: the result does the same, and each state puts out as early as can be.
-// Time grows with the number of rounds (at most the tags held, in practice a few) times the states times the tags.
-// The idea is Choffrut's and Mohri's: what every answer from a state begins with is put out on the way into that state.
+// Time O(r n k d) for r rounds (at most one for each tag held, in practice a few), n states, k tags and words of d tags; space is a note
+// in each row. From Choffrut and Mohri: what every answer from a state begins with is put out on the way into that state.
 use words::lesser;
+use workspace::FINAL;
+use workspace::FRONT;
 use workspace::Grid;
+use workspace::NEXT;
+use workspace::OUTPUT;
 use workspace::append;
 use workspace::clear;
 use workspace::common;
@@ -14,6 +18,7 @@ ghost use Prim.Native.Nat.{ℕ, _+_, _≤_, _<_};
 ghost use mathlib.Core.List.{_++_};
 ghost use lib.ListN.{length};
 ghost use Rattle.words.specs.Front.{meet};
+ghost use Rattle.workspace.specs.Entries.{OUTPUT, FINAL};
 ghost use Rattle.workspace.specs.Cells.{at, Sized, Inner, Written};
 ghost use Rattle.workspace.specs.Holds.{Ready, standing};
 ghost use Rattle.normalize.specs.Fronts.{size, frontAt, Fronted, Rests, Turn, Either, Settled, Started};
@@ -25,28 +30,50 @@ fn meeting(work: &[u16], g: Grid, base: usize, n: usize, q: usize, a: usize) -> 
     requires { ⌜ (q < n) × (a < g .tags) ⌝ }
     ensures { λ j. ⌜ j ≡ length (meet (frontAt g (now (work .entry)) base n q) (standing g (now (work .entry)) base n .output q a ++ frontAt g (now (work .entry)) base n (standing g (now (work .entry)) base n .next q a))) ⌝ }
 {
-    let own = get(work, g, base + q, g.tags, 0);
-    let long = get(work, g, base + q, a, 1);
+    let own = get(work, g, base + q, g.tags, FRONT);
+    let long = get(work, g, base + q, a, OUTPUT);
     if own <= long {
-        return common(work, g, base + q, g.tags, 7, 0, base + q, a, 1, own);
+        return common(
+            work,
+            g,
+            base + q,
+            g.tags,
+            FINAL,
+            0,
+            base + q,
+            a,
+            OUTPUT,
+            own,
+        );
     }
-    let j = common(work, g, base + q, g.tags, 7, 0, base + q, a, 1, long);
+    let j = common(
+        work,
+        g,
+        base + q,
+        g.tags,
+        FINAL,
+        0,
+        base + q,
+        a,
+        OUTPUT,
+        long,
+    );
     if j < long {
         return j;
     }
-    let next = get(work, g, base + q, a, 0);
-    let other = get(work, g, base + next, g.tags, 0);
+    let next = get(work, g, base + q, a, NEXT);
+    let other = get(work, g, base + next, g.tags, FRONT);
     long
         + common(
             work,
             g,
             base + q,
             g.tags,
-            7,
+            FINAL,
             long,
             base + next,
             g.tags,
-            7,
+            FINAL,
             lesser(own - long, other),
         )
 }
@@ -56,10 +83,10 @@ fn lower_step(work: &mut [u16], g: Grid, base: usize, n: usize, q: usize, a: usi
     requires { ⌜ (q < n) × (a < g .tags) ⌝ }
     ensures { λ fell. ⌜ Turn g (now (work .entry)) (now (work .exit)) base n (Rests g (now (work .entry)) base n q a) fell ⌝ }
 {
-    let own = get(work, g, base + q, g.tags, 0);
+    let own = get(work, g, base + q, g.tags, FRONT);
     let j = meeting(work, g, base, n, q, a);
     if j < own {
-        put(work, g, base + q, g.tags, 0, j);
+        put(work, g, base + q, g.tags, FRONT, j);
         return true;
     }
     false
@@ -95,7 +122,7 @@ fn lower_state(work: &mut [u16], g: Grid, base: usize, n: usize, q: usize) -> bo
     requires { ⌜ q < n ⌝ }
     ensures { λ fell. ⌜ Turn g (now (work .entry)) (now (work .exit)) base n ((a : ℕ) → a < g .tags → Rests g (now (work .entry)) base n q a) fell ⌝ }
 {
-    if get(work, g, base + q, g.tags, 0) == 0 {
+    if get(work, g, base + q, g.tags, FRONT) == 0 {
         return false;
     }
     lower_steps(work, g, base, n, q)
@@ -130,37 +157,48 @@ fn start_fronts(work: &mut [u16], g: Grid, base: usize, n: usize)
 {
     let mut q = 0;
     while q < n {
-        let long = get(work, g, base + q, g.tags, 7);
-        put(work, g, base + q, g.tags, 0, long);
+        let long = get(work, g, base + q, g.tags, FINAL);
+        put(work, g, base + q, g.tags, FRONT, long);
         q += 1;
     }
 }
 
 fn strip_step(work: &mut [u16], g: Grid, base: usize, q: usize, a: usize)
     requires { ⌜ Strip g (now work) base q a ⌝ }
-    ensures { λ _. ⌜ Written g (now (work .entry)) (now (work .exit)) (base + q) a 1 (strippedAt g (now (work .entry)) base q a) ⌝ }
+    ensures { λ _. ⌜ Written g (now (work .entry)) (now (work .exit)) (base + q) a OUTPUT (strippedAt g (now (work .entry)) base q a) ⌝ }
 {
-    let own = get(work, g, base + q, g.tags, 0);
-    let long = get(work, g, base + q, a, 1);
-    let next = get(work, g, base + q, a, 0);
-    let other = get(work, g, base + next, g.tags, 0);
+    let own = get(work, g, base + q, g.tags, FRONT);
+    let long = get(work, g, base + q, a, OUTPUT);
+    let next = get(work, g, base + q, a, NEXT);
+    let other = get(work, g, base + next, g.tags, FRONT);
     if own <= long {
-        drop_front(work, g, base + q, a, 1, own);
-        append(work, g, base + next, g.tags, 7, 0, other, base + q, a, 1);
+        drop_front(work, g, base + q, a, OUTPUT, own);
+        append(
+            work,
+            g,
+            base + next,
+            g.tags,
+            FINAL,
+            0,
+            other,
+            base + q,
+            a,
+            OUTPUT,
+        );
         return;
     }
-    clear(work, g, base + q, a, 1);
+    clear(work, g, base + q, a, OUTPUT);
     append(
         work,
         g,
         base + next,
         g.tags,
-        7,
+        FINAL,
         own - long,
         other,
         base + q,
         a,
-        1,
+        OUTPUT,
     );
 }
 
@@ -190,13 +228,13 @@ fn strip_steps(work: &mut [u16], g: Grid, base: usize, n: usize)
 fn strip_finals(work: &mut [u16], g: Grid, base: usize, n: usize)
     requires { ⌜ Sized g (now work) ⌝ }
     requires { ⌜ (base + n ≤ g .rows) × (8 ≤ g .depth) ⌝ }
-    requires { ⌜ ((q : ℕ) → q < n → Inner g (now work) (base + q) (g .tags) 7 × (size g (now work) base q ≤ at g (now work) (base + q) (g .tags) 7)) ⌝ }
+    requires { ⌜ ((q : ℕ) → q < n → Inner g (now work) (base + q) (g .tags) FINAL × (size g (now work) base q ≤ at g (now work) (base + q) (g .tags) FINAL)) ⌝ }
     ensures { λ _. ⌜ Finals-stripped g (now (work .entry)) (now (work .exit)) base n ⌝ }
 {
     let mut q = 0;
     while q < n {
-        let own = get(work, g, base + q, g.tags, 0);
-        drop_front(work, g, base + q, g.tags, 7, own);
+        let own = get(work, g, base + q, g.tags, FRONT);
+        drop_front(work, g, base + q, g.tags, FINAL, own);
         q += 1;
     }
 }

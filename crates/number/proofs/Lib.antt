@@ -1,4 +1,4 @@
 -- Laws of numbering in the work slice.
-pub mod Lists
-pub mod Notes
+pub mod Visits
+pub mod Searching
 pub mod Rows

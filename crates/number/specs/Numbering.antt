@@ -9,16 +9,16 @@ use Rattle.transducers.specs.Table.{shape}
 use Rattle.transducers.specs.Merge.{merge}
 use Rattle.transducers.specs.Number.{order, numbered, number}
 use Rattle.workspace.specs.declared.Grid.{Grid}
-use Rattle.workspace.specs.Cells.{Kept, In-rows, Spare}
+use Rattle.workspace.specs.Cells.{Kept, In-rows}
 use Rattle.workspace.specs.Holds.{Holds, tableAt}
-use Rattle.number.specs.Order.{Classed, mergedAt, listed, Marked}
+use Rattle.worklist.specs.Worklist.{listed, List-notes, Worklist}
+use Rattle.number.specs.Order.{Classed, mergedAt}
 
 -- the list is the order
 pub record Ordered (g : Grid) (W : List ℕ) (base n count : ℕ) : Type 0 where
   pub classed : Classed g W base n
+  pub list : Worklist g W base n count
   pub is : listed g W base count ≡ order (mergedAt g W base n)
-  pub marked : Marked g W base n (order (mergedAt g W base n))
-  pub low : count ≤ n
 
 -- the numbered transducer
 abbrev pub numberedAt : Grid → List ℕ → ℕ → ℕ → Shape
@@ -33,11 +33,11 @@ pub record Rowing (g : Grid) (W : List ℕ) (base n count to i q : ℕ) : Type 0
 
 -- some rows, and the notes of the order
 abbrev pub Rows-notes : Grid → ℕ → ℕ → ℕ → ℕ → ℕ → ℕ → ℕ → Type 0
-Rows-notes g to ceiling base n r c e = In-rows to (to + ceiling) r c e ⊎ Spare g base (base + n) 4 6 r c e
+Rows-notes g to ceiling base n r c e = In-rows to (to + ceiling) r c e ⊎ List-notes g base n r c e
 
 -- the number of states, and the numbered table in the rows before if they are no more than the ceiling; else only notes have changed
 pub record Numbered (g : Grid) (W X : List ℕ) (base n to ceiling count : ℕ) : Type 0 where
   pub count-is : count ≡ length (order (merge (g .tags) (tableAt g W base n)))
   pub kept : Kept g W X (Rows-notes g to ceiling base n)
-  pub many : ceiling < count → Kept g W X (Spare g base (base + n) 4 6)
+  pub many : ceiling < count → Kept g W X (List-notes g base n)
   pub holds : count ≤ ceiling → Holds g X to (number (g .tags) (merge (g .tags) (tableAt g W base n)))

@@ -1,36 +1,24 @@
 // Numbering: the result's states are the classes reached from state 0, in the order of first reach.
-// Time grows with the number of states times the tags times the lengths of the outputs.
-// The idea is breadth-first search: a list that grows by the unseen next states of each of its members in turn.
+// Time O(n k d) for n states, k tags and words of d tags; space is the rows of the result, and notes in n rows. By breadth-first search
+// (Moore): a list that grows by the unseen next states of each of its members in turn.
+use workspace::CLASS;
+use workspace::FINAL;
 use workspace::Grid;
+use workspace::NEXT;
+use workspace::OUTPUT;
 use workspace::append_word;
 use workspace::clear;
-use workspace::clear_notes;
 use workspace::get;
 use workspace::put;
 ghost use mathlib.Core.Path.{_≡_};
 ghost use Prim.Native.Nat.{_+_, _≤_, _<_};
-ghost use mathlib.Core.List.{[], _∷_};
 ghost use Rattle.transducers.specs.Table.{row, shape};
-ghost use Rattle.transducers.specs.Number.{note, noteAll, order};
+ghost use Rattle.transducers.specs.Number.{noteAll, order};
 ghost use Rattle.workspace.specs.Cells.{word, Sized, Inner, Written};
 ghost use Rattle.workspace.specs.Holds.{Stepped, Stepping, Rowed, Filling};
-ghost use Rattle.number.specs.Order.{Classed, mergedAt, listed, Lists, Lists-room};
+ghost use Rattle.worklist.specs.Worklist.{listed, Worklist};
+ghost use Rattle.number.specs.Order.{Classed, mergedAt, Lists};
 ghost use Rattle.number.specs.Numbering.{Ordered, numberedAt, Rowing, Numbered};
-
-// s is appended to the list of so many states if it is not there.
-fn add(work: &mut [u16], g: Grid, base: usize, n: usize, len: usize, s: usize) -> usize
-    requires { ⌜ Lists-room g (now work) base n len (note (listed g (now work) base len) s) ⌝ }
-    requires { ⌜ s < n ⌝ }
-    ensures { λ to. ⌜ Lists g (now (work .entry)) (now (work .exit)) base n (note (listed g (now (work .entry)) base len) s) to ⌝ }
-{
-    let seen = get(work, g, base + s, g.tags, 5);
-    if seen != 0 {
-        return len;
-    }
-    put(work, g, base + len, g.tags, 4, s);
-    put(work, g, base + s, g.tags, 5, len + 1);
-    len + 1
-}
 
 // The class of the state that q goes to on a.
 fn next_class(work: &[u16], g: Grid, base: usize, n: usize, q: usize, a: usize) -> usize
@@ -38,13 +26,14 @@ fn next_class(work: &[u16], g: Grid, base: usize, n: usize, q: usize, a: usize) 
     requires { ⌜ (q < n) × (a < g .tags) ⌝ }
     ensures { λ s. ⌜ (s ≡ shape (mergedAt g (now (work .entry)) base n) .next q a) × (s < n) ⌝ }
 {
-    let next = get(work, g, base + q, a, 0);
-    get(work, g, base + next, g.tags, 1)
+    let next = get(work, g, base + q, a, NEXT);
+    get(work, g, base + next, g.tags, CLASS)
 }
 
 // The next states of q are appended to the list.
 fn add_steps(work: &mut [u16], g: Grid, base: usize, n: usize, len: usize, q: usize) -> usize
-    requires { ⌜ Lists-room g (now work) base n len (noteAll (row (mergedAt g (now work) base n) q .steps) (listed g (now work) base len)) ⌝ }
+    requires { ⌜ Classed g (now work) base n ⌝ }
+    requires { ⌜ Worklist g (now work) base n len ⌝ }
     requires { ⌜ q < n ⌝ }
     ensures { λ to. ⌜ Lists g (now (work .entry)) (now (work .exit)) base n (noteAll (row (mergedAt g (now (work .entry)) base n) q .steps) (listed g (now (work .entry)) base len)) to ⌝ }
 {
@@ -53,31 +42,22 @@ fn add_steps(work: &mut [u16], g: Grid, base: usize, n: usize, len: usize, q: us
     let mut a = 0;
     while a < tags {
         let s = next_class(work, g, base, n, q, a);
-        to = add(work, g, base, n, to, s);
+        to = worklist::enter(work, g, base, n, to, s);
         a += 1;
     }
     to
 }
 
-// The list of state 0.
-fn begin(work: &mut [u16], g: Grid, base: usize, n: usize)
-    requires { ⌜ Classed g (now work) base n ⌝ }
-    ensures { λ _. ⌜ Lists g (now (work .entry)) (now (work .exit)) base n (0 ∷ []) 1 ⌝ }
-{
-    clear_notes(work, g, base, n, 5);
-    put(work, g, base, g.tags, 4, 0);
-    put(work, g, base, g.tags, 5, 1);
-}
-
+// The list from state 0 on: its length.
 fn search(work: &mut [u16], g: Grid, base: usize, n: usize) -> usize
     requires { ⌜ Classed g (now work) base n ⌝ }
-    requires { ⌜ Lists g (now work) (now work) base n (0 ∷ []) 1 ⌝ }
+    requires { ⌜ Worklist g (now work) base n 1 ⌝ }
     ensures { λ count. ⌜ Lists g (now (work .entry)) (now (work .exit)) base n (order (mergedAt g (now (work .entry)) base n)) count ⌝ }
 {
     let mut len = 1;
     let mut i = 0;
     while i < len {
-        let q = get(work, g, base + i, g.tags, 4);
+        let q = worklist::member(work, g, base, n, len, i);
         len = add_steps(work, g, base, n, len, q);
         i += 1;
     }
@@ -112,8 +92,7 @@ fn next_place(
     ensures { λ p. ⌜ (p ≡ numberedAt g (now (work .entry)) base n .next i a) × (p < n) ⌝ }
 {
     let s = next_class(work, g, base, n, q, a);
-    let seen = get(work, g, base + s, g.tags, 5);
-    seen - 1
+    worklist::place_of(work, g, base, n, count, s)
 }
 
 fn number_step(
@@ -132,8 +111,8 @@ fn number_step(
     ensures { λ _. ⌜ Stepped g (now (work .entry)) (now (work .exit)) (to + i) a (numberedAt g (now (work .entry)) base n .next i a) (numberedAt g (now (work .entry)) base n .output i a) ⌝ }
 {
     let next = next_place(work, g, base, n, count, to, i, q, a);
-    copy_word(work, g, base + q, a, 1, to + i);
-    put(work, g, to + i, a, 0, next);
+    copy_word(work, g, base + q, a, OUTPUT, to + i);
+    put(work, g, to + i, a, NEXT, next);
 }
 
 fn number_steps(
@@ -171,7 +150,7 @@ fn number_row(
     ensures { λ _. ⌜ Rowed g (now (work .entry)) (now (work .exit)) (to + i) (numberedAt g (now (work .entry)) base n) i ⌝ }
 {
     number_steps(work, g, base, n, count, to, i, q);
-    copy_word(work, g, base + q, g.tags, 7, to + i);
+    copy_word(work, g, base + q, g.tags, FINAL, to + i);
 }
 
 fn number_rows(work: &mut [u16], g: Grid, base: usize, n: usize, count: usize, to: usize)
@@ -181,7 +160,7 @@ fn number_rows(work: &mut [u16], g: Grid, base: usize, n: usize, count: usize, t
 {
     let mut i = 0;
     while i < count {
-        let q = get(work, g, base + i, g.tags, 4);
+        let q = worklist::member(work, g, base, n, count, i);
         number_row(work, g, base, n, count, to, i, q);
         i += 1;
     }
@@ -193,7 +172,7 @@ pub fn number(work: &mut [u16], g: Grid, base: usize, n: usize, to: usize, ceili
     requires { ⌜ to + ceiling ≤ base ⌝ }
     ensures { λ count. ⌜ Numbered g (now (work .entry)) (now (work .exit)) base n to ceiling count ⌝ }
 {
-    begin(work, g, base, n);
+    worklist::begin(work, g, base, n);
     let count = search(work, g, base, n);
     if ceiling < count {
         return count;

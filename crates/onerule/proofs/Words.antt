@@ -1,24 +1,23 @@
 -- The words of the rule's transducer as parts of the pattern.
-use Prim.Native.Nat.{ℕ, zero, suc, _+_, _-_, _≤_, _<_, min}
+use Prim.Native.Nat.{ℕ, suc, _+_, _-_, _≤_, _<_, min}
 use native.Mathlib.Omega.{arith}
-use native.Mathlib.Decide.{ℕ-discrete, decLt}
+use native.Mathlib.Decide.{decLt}
 use native.Mathlib.Numerals.{add-one}
-use mathlib.Core.Path.{_≡_, refl, sym, ap, ap₂, _∙_, subst}
+use mathlib.Core.Path.{_≡_, refl, sym, ap, ap₂, _∙_}
 use mathlib.Core.Bool.{Bool, true, false}
 use mathlib.Core.List.{List, [], _∷_, _++_}
-use borrow.Author.Tests.{eq-eqb, ne-eqb, eqb-true, eqb-false}
+use borrow.Author.Tests.{eq-eqb, ne-eqb, eqb-false}
 use lib.Dec.{eqb}
 use lib.ListN.{length, getD, set, take, drop, length-append, length-drop, length-take, length-set, drop-of-length-le}
 use lib.Seq.{drop-cons, getD-set-same, drop-set-lt, take-length, take-all, take-append-le, take-take, take-add, drop-at, length-take-le}
 use Rattle.words.specs.Overlap.{overlap}
 use Rattle.words.proofs.Overlap.{overlap-le}
-use Rattle.cascades.specs.Rule.{Rule, replaced}
 use Rattle.transducers.specs.Canonical.{Inside}
 use Rattle.minimal.specs.OneRule.{held, goes, says, oneRule}
 use Rattle.workspace.specs.declared.Grid.{Grid}
 use Rattle.workspace.specs.Cells.{part}
 use Rattle.workspace.specs.Holds.{Roomy}
-use Rattle.workspace.proofs.Cells.{part-length}
+use Rattle.workspace.proofs.Appending.{part-length}
 use Rattle.onerule.specs.Rule.{rule}
 use Rattle.onerule.proofs.Borders.{matched, matched-length}
 

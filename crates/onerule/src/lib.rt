@@ -1,9 +1,12 @@
 // The transducer of one rule: it does what the rule does, and is the smallest one that does.
-// Time grows with the tags times the cube of the pattern's length.
-// 002, definition 2, after Simon's string matching automaton: the states are the prefixes of the pattern, here by their lengths.
+// Time O(k l³) for k tags and a pattern of l tags; space is the l + 1 rows of the result.
+// From 002, definition 2, after Simon's string matching automaton: the states are the prefixes of the pattern, here by their lengths.
 use words::lesser;
 use words::wide;
+use workspace::FINAL;
 use workspace::Grid;
+use workspace::NEXT;
+use workspace::OUTPUT;
 use workspace::clear;
 use workspace::push;
 use workspace::put;
@@ -14,6 +17,7 @@ ghost use lib.ListN.{length, drop, take};
 ghost use Rattle.words.specs.Word.{prefix};
 ghost use Rattle.words.specs.Overlap.{overlap};
 ghost use Rattle.minimal.specs.OneRule.{oneRule, ruleTable, goes, says, held};
+ghost use Rattle.workspace.specs.Entries.{OUTPUT, FINAL};
 ghost use Rattle.workspace.specs.Cells.{at, word, Sized, Kept, In-rows, Written, part};
 ghost use Rattle.workspace.specs.Holds.{Stepped, Stepping, Rowed, Holds};
 ghost use Rattle.onerule.specs.Rule.{rule, Room};
@@ -96,24 +100,24 @@ fn write_output(
     requires { ⌜ Room g (now work) (rule (now u) place tag) ⌝ }
     requires { ⌜ (r < g .rows) × (a < g .tags) × (j ≤ length (now u)) ⌝ }
     requires { ⌜ next ≡ goes (rule (now u) place tag) j a ⌝ }
-    ensures { λ _. ⌜ Written g (now (work .entry)) (now (work .exit)) r a 1 (says (rule (now (u .entry)) place tag) j a) ⌝ }
+    ensures { λ _. ⌜ Written g (now (work .entry)) (now (work .exit)) r a OUTPUT (says (rule (now (u .entry)) place tag) j a) ⌝ }
 {
-    clear(work, g, r, a, 1);
+    clear(work, g, r, a, OUTPUT);
     if j == u.len() {
-        push(work, g, r, a, 1, a);
+        push(work, g, r, a, OUTPUT, a);
         return;
     }
     if next == u.len() {
-        push(work, g, r, a, 1, wide(tag));
-        push_part(work, g, r, a, 1, u, place + 1, u.len());
+        push(work, g, r, a, OUTPUT, wide(tag));
+        push_part(work, g, r, a, OUTPUT, u, place + 1, u.len());
         return;
     }
     if place < next {
-        push_part(work, g, r, a, 1, u, place, place + (j + 1 - next));
+        push_part(work, g, r, a, OUTPUT, u, place, place + (j + 1 - next));
         return;
     }
-    push_part(work, g, r, a, 1, u, lesser(place, j), j);
-    push(work, g, r, a, 1, a);
+    push_part(work, g, r, a, OUTPUT, u, lesser(place, j), j);
+    push(work, g, r, a, OUTPUT, a);
 }
 
 fn write_step(
@@ -131,7 +135,7 @@ fn write_step(
     ensures { λ _. ⌜ Stepped g (now (work .entry)) (now (work .exit)) r a (goes (rule (now (u .entry)) place tag) j a) (says (rule (now (u .entry)) place tag) j a) ⌝ }
 {
     let next = next_of(u, j, a, place, tag);
-    put(work, g, r, a, 0, next);
+    put(work, g, r, a, NEXT, next);
     write_output(work, g, r, u, place, tag, j, a, next);
 }
 
@@ -151,13 +155,13 @@ fn write_steps(work: &mut [u16], g: Grid, r: usize, u: &[u8], place: usize, tag:
 fn write_final(work: &mut [u16], g: Grid, r: usize, u: &[u8], place: usize, tag: u8, j: usize)
     requires { ⌜ Room g (now work) (rule (now u) place tag) ⌝ }
     requires { ⌜ (r < g .rows) × (j ≤ length (now u)) ⌝ }
-    ensures { λ _. ⌜ Written g (now (work .entry)) (now (work .exit)) r (g .tags) 7 (held (rule (now (u .entry)) place tag) j) ⌝ }
+    ensures { λ _. ⌜ Written g (now (work .entry)) (now (work .exit)) r (g .tags) FINAL (held (rule (now (u .entry)) place tag) j) ⌝ }
 {
-    clear(work, g, r, g.tags, 7);
+    clear(work, g, r, g.tags, FINAL);
     if j == u.len() {
         return;
     }
-    push_part(work, g, r, g.tags, 7, u, lesser(place, j), j);
+    push_part(work, g, r, g.tags, FINAL, u, lesser(place, j), j);
 }
 
 fn write_state(work: &mut [u16], g: Grid, r: usize, u: &[u8], place: usize, tag: u8, j: usize)

@@ -1,6 +1,4 @@
 -- Composition: the result puts out what the second transducer makes of what the first puts out.
--- Time grows with the product of the numbers of states, times the tags, times the lengths of the outputs.
--- The idea is the usual one for sequential transducers (Roche and Schabes; 002, section 2): run the second on each output of the first.
 use Prim.Native.Nat.{ℕ, _+_, _*_, _/_, _%_}
 use Rattle.transducers.specs.Transducer.{Shape, puts}
 use Rattle.transducers.specs.Table.{Table, shape}

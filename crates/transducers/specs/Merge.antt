@@ -1,6 +1,4 @@
 -- Merging: the result does the same, and each step leads to the least of the states that still put out the same.
--- Time grows with the number of rounds (at most the states, in practice a few) times the square of the states times the tags.
--- The idea is Moore's: states are told apart by what they put out at a step, then by where the step leads, until no class splits.
 use Prim.Native.Nat.{ℕ, _*_, _-_, _≤_, _<_}
 use mathlib.Core.Path.{_≡_}
 use mathlib.Core.List.{List, _∷_, map}

@@ -1,6 +1,4 @@
 -- Normalization: the result does the same, and each state puts out as early as can be.
--- Time grows with the number of rounds (at most the tags held, in practice a few) times the states times the tags.
--- The idea is Choffrut's and Mohri's: what every answer from a state begins with is put out on the way into that state.
 use Prim.Native.Nat.{ℕ, _<_}
 use mathlib.Core.List.{List, [], _∷_, _++_, map}
 use lib.ListN.{length, getD, drop}

@@ -1,6 +1,4 @@
 -- Numbering: the result does the same, and its states are those reached from state 0, in the order of first reach.
--- Time grows with the square of the states times the tags.
--- The idea is breadth-first search: a list that grows by the unseen next states of each of its members in turn.
 use Prim.Native.Nat.{ℕ, zero, suc}
 use mathlib.Core.List.{List, [], _∷_, _++_}
 use mathlib.Core.Bool.{true, false}

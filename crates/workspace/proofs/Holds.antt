@@ -1,10 +1,9 @@
 -- Rows that hold a table: they do as long as their words stay, and are filled step by step and row by row.
 use Prim.Native.Nat.{ℕ, suc, _+_, _≤_, _<_}
 use native.Mathlib.Omega.{arith}
-use native.Mathlib.Decide.{ℕ-discrete}
-use mathlib.Core.Path.{_≡_, refl, sym, ap, _∙_, subst}
+use mathlib.Core.Path.{_≡_, sym, ap, _∙_}
 use mathlib.Core.Logic.{_⊎_, inl, inr}
-use mathlib.Core.List.{List, []}
+use mathlib.Core.List.{List}
 use lib.ListN.{length}
 use Rattle.words.proofs.Word.{below-suc}
 use Rattle.transducers.specs.Transducer.{Shape}
@@ -14,28 +13,30 @@ use Rattle.transducers.specs.Tabulate.{table, Doing}
 use Rattle.transducers.proofs.Tabulate.{agree-table, rows-table, length-table, table-equal}
 use Rattle.transducers.proofs.Run.{output-length}
 use Rattle.workspace.specs.declared.Grid.{Grid}
+use Rattle.workspace.specs.Entries.{NEXT, OUTPUT, FINAL}
 use Rattle.workspace.specs.Cells.{at, word, Kept, In-rows, Entry, Cell, Put, Written}
 use Rattle.workspace.specs.Holds.{StepAt, Stepped, RowAt, Rowed, Roomy, Holds, Stepping, Filling, held, tableAt}
-use Rattle.workspace.proofs.Cells.{word-length, word-kept, kept-none, kept-then, kept-wider}
+use Rattle.workspace.proofs.Regions.{kept-none, kept-then, kept-wider}
+use Rattle.workspace.proofs.Words.{word-length, word-kept}
 
 module _ (g : Grid) (P : ℕ → ℕ → ℕ → Type 0) (W X : List ℕ) (k : Kept g W X P) where
   pub step-kept : (r a next : ℕ) (output : List ℕ) → StepAt g W r a next output → a < g .tags → length output + 2 ≤ g .depth
       → ((e : ℕ) → P r a e → ⊥) → StepAt g X r a next output
   step-kept r a next output s ha room out =
       record {
-        next-is = k .same r a 0 (omega arith) (omega arith) (out 0) ∙ s .next-is;
+        next-is = k .same r a NEXT (omega arith) (omega arith) (out 0) ∙ s .next-is;
         output-is =
-            word-kept g P W X k r a 1 (omega arith) (omega (arith, word-length g W r a 1, ap length (s .output-is))) (λ e h. out e) ∙ s .output-is;
+            word-kept g P W X k r a OUTPUT (omega arith) (omega (arith, word-length g W r a OUTPUT, ap length (s .output-is))) (λ e h. out e) ∙ s .output-is;
       }
 
-  pub final-kept : (r : ℕ) (w : List ℕ) → word g W r (g .tags) 7 ≡ w → length w + 8 ≤ g .depth
-      → ((e : ℕ) → 7 ≤ e → P r (g .tags) e → ⊥) → word g X r (g .tags) 7 ≡ w
+  pub final-kept : (r : ℕ) (w : List ℕ) → word g W r (g .tags) FINAL ≡ w → length w + 8 ≤ g .depth
+      → ((e : ℕ) → FINAL ≤ e → P r (g .tags) e → ⊥) → word g X r (g .tags) FINAL ≡ w
   final-kept r w is room out =
-      word-kept g P W X k r (g .tags) 7 (omega arith) (omega (arith, word-length g W r (g .tags) 7, ap length is)) out ∙ is
+      word-kept g P W X k r (g .tags) FINAL (omega arith) (omega (arith, word-length g W r (g .tags) FINAL, ap length is)) out ∙ is
 
   module _ (S : Shape) (roomy : Roomy g S) where
     pub row-kept : (r q : ℕ) → q < S .count → RowAt g W r S q → ((a e : ℕ) → a < g .tags → P r a e → ⊥)
-        → ((e : ℕ) → 7 ≤ e → P r (g .tags) e → ⊥) → RowAt g X r S q
+        → ((e : ℕ) → FINAL ≤ e → P r (g .tags) e → ⊥) → RowAt g X r S q
     row-kept r q hq s out-steps out-final =
         record {
           steps = λ a ha. step-kept r a (S .next q a) (S .output q a) (s .steps a ha) ha (roomy .outputs q a hq ha) (λ e. out-steps a e ha);
@@ -45,7 +46,7 @@ module _ (g : Grid) (P : ℕ → ℕ → ℕ → Type 0) (W X : List ℕ) (k : K
   -- rows hold their table as long as only other rows and spare entries change
   pub holds-kept : (base : ℕ) (t : Table) → Holds g W base t
       → ((q a e : ℕ) → q < length t → a < g .tags → P (base + q) a e → ⊥)
-      → ((q e : ℕ) → q < length t → 7 ≤ e → P (base + q) (g .tags) e → ⊥) → Holds g X base t
+      → ((q e : ℕ) → q < length t → FINAL ≤ e → P (base + q) (g .tags) e → ⊥) → Holds g X base t
   holds-kept base t h out-steps out-final =
       record {
         room = h .room;
@@ -57,30 +58,30 @@ module _ (g : Grid) (P : ℕ → ℕ → ℕ → Type 0) (W X : List ℕ) (k : K
 
 -- a next state and an output make a step
 pub stepped : (g : Grid) (W X Y : List ℕ) (r a next : ℕ) (output : List ℕ) → a < g .tags → 0 < g .depth
-    → Put g W X r a 0 next → Written g X Y r a 1 output → Stepped g W Y r a next output
+    → Put g W X r a NEXT next → Written g X Y r a OUTPUT output → Stepped g W Y r a next output
 stepped g W X Y r a next output ha hd p w =
     record {
       kept =
-          kept-then g (Cell r a 0) W X Y
-          (kept-wider g (Cell r a 0) (Entry r a 0) W X (p .kept) (λ r' c' e' i. (i .0, i .1, omega arith)))
-          (kept-wider g (Cell r a 0) (Cell r a 1) X Y (w .kept) (λ r' c' e' i. (i .0, i .1, omega arith)));
-      step = record { next-is = w .kept .same r a 0 (omega arith) hd (λ i. omega (arith, i .2)) ∙ p .here; output-is = w .here };
+          kept-then g (Cell r a NEXT) W X Y
+          (kept-wider g (Cell r a NEXT) (Entry r a NEXT) W X (p .kept) (λ r' c' e' i. (i .0, i .1, omega arith)))
+          (kept-wider g (Cell r a NEXT) (Cell r a OUTPUT) X Y (w .kept) (λ r' c' e' i. (i .0, i .1, omega arith)));
+      step = record { next-is = w .kept .same r a NEXT (omega arith) hd (λ i. omega (arith, i .2)) ∙ p .here; output-is = w .here };
     }
 
 -- in the other order
 pub stepped-after : (g : Grid) (W X Y : List ℕ) (r a next : ℕ) (output : List ℕ) → a < g .tags → length output + 1 < g .depth
-    → Written g W X r a 1 output → Put g X Y r a 0 next → Stepped g W Y r a next output
+    → Written g W X r a OUTPUT output → Put g X Y r a NEXT next → Stepped g W Y r a next output
 stepped-after g W X Y r a next output ha hd w p =
     record {
       kept =
-          kept-then g (Cell r a 0) W X Y
-          (kept-wider g (Cell r a 0) (Cell r a 1) W X (w .kept) (λ r' c' e' i. (i .0, i .1, omega arith)))
-          (kept-wider g (Cell r a 0) (Entry r a 0) X Y (p .kept) (λ r' c' e' i. (i .0, i .1, omega arith)));
+          kept-then g (Cell r a NEXT) W X Y
+          (kept-wider g (Cell r a NEXT) (Cell r a OUTPUT) W X (w .kept) (λ r' c' e' i. (i .0, i .1, omega arith)))
+          (kept-wider g (Cell r a NEXT) (Entry r a NEXT) X Y (p .kept) (λ r' c' e' i. (i .0, i .1, omega arith)));
       step =
           record {
             next-is = p .here;
             output-is =
-                word-kept g (Entry r a 0) X Y (p .kept) r a 1 (omega arith) (omega (arith, w .size)) (λ e h i. omega (arith, i .2)) ∙ w .here;
+                word-kept g (Entry r a NEXT) X Y (p .kept) r a OUTPUT (omega arith) (omega (arith, w .size)) (λ e h i. omega (arith, i .2)) ∙ w .here;
           };
     }
 
@@ -94,27 +95,27 @@ module _ (g : Grid) (r : ℕ) (S : Shape) (q : ℕ) (hq : q < S .count) (roomy :
       record {
         kept =
             kept-then g (In-rows r (r + 1)) W X Y (s .kept)
-            (kept-wider g (In-rows r (r + 1)) (Cell r a 0) X Y (new .kept) (λ r' c' e' p. (omega (arith, p .0), omega (arith, p .0))));
+            (kept-wider g (In-rows r (r + 1)) (Cell r a NEXT) X Y (new .kept) (λ r' c' e' p. (omega (arith, p .0), omega (arith, p .0))));
         steps = λ b h. go b (below-suc b a (omega arith));
       }
     where
       go : (b : ℕ) → (b < a) ⊎ (b ≡ a) → StepAt g Y r b (S .next q b) (S .output q b)
       go b (inl h) =
-          step-kept g (Cell r a 0) X Y (new .kept) r b (S .next q b) (S .output q b) (s .steps b h) (omega arith) (roomy .outputs q b hq (omega arith))
+          step-kept g (Cell r a NEXT) X Y (new .kept) r b (S .next q b) (S .output q b) (s .steps b h) (omega arith) (roomy .outputs q b hq (omega arith))
           (λ e p. omega (arith, p .1))
       go b (inr e) = rw e (new .step)
 
   -- with the final word the row is filled
-  pub stepping-end : (W X Y : List ℕ) → Stepping g W X r S q (g .tags) → Written g X Y r (g .tags) 7 (S .final q) → Rowed g W Y r S q
+  pub stepping-end : (W X Y : List ℕ) → Stepping g W X r S q (g .tags) → Written g X Y r (g .tags) FINAL (S .final q) → Rowed g W Y r S q
   stepping-end W X Y s w =
       record {
         kept =
             kept-then g (In-rows r (r + 1)) W X Y (s .kept)
-            (kept-wider g (In-rows r (r + 1)) (Cell r (g .tags) 7) X Y (w .kept) (λ r' c' e' p. (omega (arith, p .0), omega (arith, p .0))));
+            (kept-wider g (In-rows r (r + 1)) (Cell r (g .tags) FINAL) X Y (w .kept) (λ r' c' e' p. (omega (arith, p .0), omega (arith, p .0))));
         state =
             record {
               steps = λ a ha.
-                  step-kept g (Cell r (g .tags) 7) X Y (w .kept) r a (S .next q a) (S .output q a) (s .steps a ha) ha (roomy .outputs q a hq ha)
+                  step-kept g (Cell r (g .tags) FINAL) X Y (w .kept) r a (S .next q a) (S .output q a) (s .steps a ha) ha (roomy .outputs q a hq ha)
                   (λ e p. omega (arith, p .1));
               final-is = w .here;
             };

@@ -1,5 +1,10 @@
 -- Laws of the work slice.
-pub mod Cells
+pub mod Places
+pub mod Regions
+pub mod Words
+pub mod Appending
+pub mod Shifting
+pub mod Fronts
 pub mod Holds
 pub mod Views
 pub mod Falls

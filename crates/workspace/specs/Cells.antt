@@ -25,9 +25,9 @@ word g W r c s = tabulate (at g W r c s) (suc s) (at g W r c)
 -- the slice has the rows
 pub record Sized (g : Grid) (W : List ℕ) : Type 0 where
   pub room : g .rows * (g .tags + 1) * g .depth ≤ length W
-  pub rows-small : g .rows < 65536
-  pub tags-small : g .tags < 65536
-  pub depth-small : g .depth < 65536
+  pub rows-small : g .rows < 0x100000000
+  pub tags-small : g .tags < 0x10000
+  pub depth-small : g .depth < 0x10000
 
 pub record In (g : Grid) (r c e : ℕ) : Type 0 where
   pub row : r < g .rows

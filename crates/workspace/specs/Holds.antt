@@ -1,6 +1,5 @@
--- Rows of the work slice that hold a table: a row is a state. Its cell a < K is the step on the tag a: entry 0 the next state, entry 1
--- the number of tags put out, the tags after. Its last cell has the final word, entry 7 its length, and before that what the phases
--- note of the state.
+-- Rows of the work slice that hold a table: a row is a state. Its cell a < K is the step on the tag a, its last cell has the final word and
+-- what the phases note of the state.
 use Prim.Native.Nat.{ℕ, _+_, _≤_, _<_}
 use mathlib.Core.Path.{_≡_}
 use mathlib.Core.List.{List}
@@ -10,22 +9,23 @@ use Rattle.transducers.specs.Table.{Table, shape}
 use Rattle.transducers.specs.Canonical.{Inside, Sound, Held}
 use Rattle.transducers.specs.Tabulate.{table, Rows}
 use Rattle.workspace.specs.declared.Grid.{Grid}
+use Rattle.workspace.specs.Entries.{NEXT, OUTPUT, FINAL}
 use Rattle.workspace.specs.Cells.{at, word, Sized, Kept, Cell, In-rows}
 
 -- a cell holds a step
 pub record StepAt (g : Grid) (W : List ℕ) (r a next : ℕ) (output : List ℕ) : Type 0 where
-  pub next-is : at g W r a 0 ≡ next
-  pub output-is : word g W r a 1 ≡ output
+  pub next-is : at g W r a NEXT ≡ next
+  pub output-is : word g W r a OUTPUT ≡ output
 
 -- a cell has another step
 pub record Stepped (g : Grid) (W X : List ℕ) (r a next : ℕ) (output : List ℕ) : Type 0 where
-  pub kept : Kept g W X (Cell r a 0)
+  pub kept : Kept g W X (Cell r a NEXT)
   pub step : StepAt g X r a next output
 
 -- a row holds the state q of S
 pub record RowAt (g : Grid) (W : List ℕ) (r : ℕ) (S : Shape) (q : ℕ) : Type 0 where
   pub steps : (a : ℕ) → a < g .tags → StepAt g W r a (S .next q a) (S .output q a)
-  pub final-is : word g W r (g .tags) 7 ≡ S .final q
+  pub final-is : word g W r (g .tags) FINAL ≡ S .final q
 
 -- a row has another state
 pub record Rowed (g : Grid) (W X : List ℕ) (r : ℕ) (S : Shape) (q : ℕ) : Type 0 where
@@ -42,9 +42,9 @@ abbrev pub held : Grid → List ℕ → ℕ → ℕ → Shape
 held g W base n =
     record {
       count = n;
-      next = λ q a. at g W (base + q) a 0;
-      output = λ q a. word g W (base + q) a 1;
-      final = λ q. word g W (base + q) (g .tags) 7;
+      next = λ q a. at g W (base + q) a NEXT;
+      output = λ q a. word g W (base + q) a OUTPUT;
+      final = λ q. word g W (base + q) (g .tags) FINAL;
     }
 
 unfoldable pub tableAt : Grid → List ℕ → ℕ → ℕ → Table
@@ -71,10 +71,11 @@ pub record Filling (g : Grid) (W X : List ℕ) (base n : ℕ) (S : Shape) (j : �
   pub kept : Kept g W X (In-rows base (base + n))
   pub states : (q : ℕ) → q < j → RowAt g X (base + q) S q
 
--- n rows hold a transducer whose words have room
+-- n rows hold a transducer whose words have room, and whose states can be noted
 pub record Ready (g : Grid) (W : List ℕ) (base n : ℕ) : Type 0 where
   pub sized : Sized g W
   pub inside : base + n ≤ g .rows
+  pub small : n < 0x10000
   pub holds : Holds g W base (tableAt g W base n)
   pub sound : Sound (g .tags) (standing g W base n)
   pub most : ℕ

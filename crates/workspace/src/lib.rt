@@ -7,6 +7,30 @@ ghost use lib.ListN.{length, drop, take};
 ghost use Rattle.words.specs.Front.{meet};
 ghost use Rattle.workspace.specs.Cells.{ix, at, word, Sized, In, Inner, Got, Put, Cleared, Written, part, Decides};
 
+// The entries of a step's cell: the next state, and the number of tags put out, which come after it.
+pub const NEXT: usize = 0;
+
+pub const OUTPUT: usize = 1;
+
+// The entries of a row's last cell: the number of tags of the final word, which come after it, and before it what the phases note:
+// normalization how many tags are put out earlier; merging the class, the new class, and the name that follows a name, and to begin
+// with the first state of a bucket; a worklist its i-th member, and one more than the place of a member.
+pub const FRONT: usize = 0;
+
+pub const CLASS: usize = 1;
+
+pub const NEW: usize = 2;
+
+pub const HEAD: usize = 2;
+
+pub const LINK: usize = 3;
+
+pub const MEMBER: usize = 4;
+
+pub const MARK: usize = 5;
+
+pub const FINAL: usize = 7;
+
 // Each row has a cell for every tag and one more.
 pub struct Grid {
     pub rows: usize,

@@ -1,6 +1,6 @@
 -- `compose::pair_row` meets its contract.
 use native.Mathlib.Omega.{arith}
-use Rattle.compose.proofs.Pairs.{room, roomy-product, count-product, composable-kept, first-same, second-same, notes-inside}
+use Rattle.compose.proofs.Pairs.{roomy-product, count-product, composable-kept, first-same, second-same, notes-inside}
 use Rattle.compose.proofs.Reached.{row-done}
 use borrow.Author.Needs.{needs}
 use Rattle.compose.proofs.pair_row.Statement.{statement}
@@ -29,7 +29,7 @@ returns c =
     let a = st .args in
     let u = c .before .before .before .before .before .before .pair-steps .ensures in
     let k = notes-inside (a .g) _ _ _ _ _ _ (st .pre .0) _ (a .i) (omega (arith, st .pre .1 .0 .low, st .pre .1 .1 .0)) (u .grown .kept) in
-    row-done (a .g) _ _ _ _ _ _ _ _ _ _ (room (a .g) _ _ _ _ _ _ (st .pre .0) .deep) (roomy-product (a .g) _ _ _ _ _ _ (st .pre .0) .finals (a .s) (omega (arith, count-product (a .g) _ _ _ _ _ _ (st .pre .0), st .pre .1 .1 .1))) u
+    row-done (a .g) _ _ _ _ _ _ _ _ _ _ (roomy-product (a .g) _ _ _ _ _ _ (st .pre .0) .finals (a .s) (omega (arith, count-product (a .g) _ _ _ _ _ _ (st .pre .0), st .pre .1 .1 .1))) u
     (rw (first-same (a .g) _ _ _ _ _ _ (st .pre .0) _ k, second-same (a .g) _ _ _ _ _ _ (st .pre .0) _ k) at (c .before .before .pair-final .ensures))
 
 pub pair-row-spec : {M : Type 1} → statement M

@@ -1,16 +1,20 @@
 -- `compose::pair_step` meets its contract.
-use Prim.Native.Nat.{_*_, _-_, _<_}
+use Prim.Native.Nat.{_*_, _<_}
 use native.Mathlib.Omega.{arith}
-use Rattle.compose.proofs.Pairs.{some, pair-first, runs-output, next-small, run-pairs, run-room, step-done}
+use Rattle.compose.proofs.Pairs.{some, pair-first, runs-output, next-small, run-list, step-done}
 use borrow.Author.Needs.{needs}
 use Rattle.compose.proofs.pair_step.Statement.{statement}
 use Rattle.compose.proofs.pair_step.Tie as tie
 use Rattle.compose.proofs.pair_step.Reads as reads
 use Rattle.compose.proofs.pair_step.Lts as lts
-use Rattle.compose.proofs.enter.Reads as enter-reads
+use Rattle.worklist.proofs.enter.Reads as enter-reads
+use Rattle.worklist.proofs.place_of.Reads as place-of-reads
 use Rattle.compose.proofs.run_into.Reads as run-into-reads
 use Rattle.workspace.proofs.get.Reads as get-reads
 use Rattle.workspace.proofs.put.Reads as put-reads
+
+mul-total : tie.Need-mul-total
+mul-total c = let st = c .before in omega (arith, st .pre .0 .small)
 
 div-q : tie.Need-div-q
 div-q c = let st = c .before in omega (arith, some (st .args .g) _ _ _ _ _ _ (st .pre .0))
@@ -56,9 +60,6 @@ add-pair c =
     let hi : a .i < a .n * a .m = omega (arith, st .pre .1 .0 .low, st .pre .1 .1 .0) in
     omega (arith, next-small (a .g) _ _ _ _ _ _ (st .pre .0) (a .i) (a .s) (a .a) hi (st .pre .1 .1 .1) (st .pre .1 .1 .2) _ _ (c .before .before .before .before .run-into .ensures) _ (c .get .ensures))
 
-mul-enter : tie.Need-mul-enter
-mul-enter c = search needs
-
 enter-requires : tie.Need-enter-requires
 enter-requires c κs =
     let st = c .before .before .before .before .before .before .before .before in
@@ -66,27 +67,18 @@ enter-requires c κs =
     let hi : a .i < a .n * a .m = omega (arith, st .pre .1 .0 .low, st .pre .1 .1 .0) in
     let run = c .before .before .before .before .before .run-into .ensures in
     let got = c .before .get .ensures in
-    (run-room (a .g) _ _ _ _ _ _ (st .pre .0) (a .i) (a .s) (a .a) hi (st .pre .1 .1 .1) (st .pre .1 .1 .2) _ _ run _ got _ (st .pre .1 .0), (run-pairs (a .g) _ _ _ _ _ _ (st .pre .0) (a .i) (a .s) (a .a) hi (st .pre .1 .1 .1) (st .pre .1 .1 .2) _ _ run _ got _ (st .pre .1 .0), next-small (a .g) _ _ _ _ _ _ (st .pre .0) (a .i) (a .s) (a .a) hi (st .pre .1 .1 .1) (st .pre .1 .1 .2) _ _ run _ got .1))
+    (run-list (a .g) _ _ _ _ _ _ (st .pre .0) (a .i) (a .s) (a .a) hi (st .pre .1 .1 .1) (st .pre .1 .1 .2) _ _ run _ got _ (st .pre .1 .0), next-small (a .g) _ _ _ _ _ _ (st .pre .0) (a .i) (a .s) (a .a) hi (st .pre .1 .1 .1) (st .pre .1 .1 .2) _ _ run _ got .1)
 
-add-get-2 : tie.Need-add-get-2
-add-get-2 c =
+place-of-requires : tie.Need-place-of-requires
+place-of-requires c κs =
     let st = c .before .before .before .before .before .before .before .before .before .before .before .before in
     let a = st .args in
     let hi : a .i < a .n * a .m = omega (arith, st .pre .1 .0 .low, st .pre .1 .1 .0) in
-    omega (arith, next-small (a .g) _ _ _ _ _ _ (st .pre .0) (a .i) (a .s) (a .a) hi (st .pre .1 .1 .1) (st .pre .1 .1 .2) _ _ (c .before .before .before .before .before .before .before .before .before .run-into .ensures) _ (c .before .before .before .before .before .get .ensures), st .pre .0 .above, st .pre .0 .second-holds .room)
-
-get-requires-2 : tie.Need-get-requires-2
-get-requires-2 c κs =
-    let st = c .before .before .before .before .before .before .before .before .before .before .before .before in
-    let a = st .args in
-    let hi : a .i < a .n * a .m = omega (arith, st .pre .1 .0 .low, st .pre .1 .1 .0) in
-    omega (arith, next-small (a .g) _ _ _ _ _ _ (st .pre .0) (a .i) (a .s) (a .a) hi (st .pre .1 .1 .1) (st .pre .1 .1 .2) _ _ (c .before .before .before .before .before .before .before .before .before .run-into .ensures) _ (c .before .before .before .before .before .get .ensures), st .pre .0 .above, st .pre .0 .second-holds .room, st .pre .0 .room, c .before .before .before .before .before .before .before .before .before .run-into .ensures .wrote .kept .long, c .before .before .before .enter .ensures .grown .kept .long)
+    let entered = c .before .before .before .enter .ensures in
+    (entered .grown .list, (next-small (a .g) _ _ _ _ _ _ (st .pre .0) (a .i) (a .s) (a .a) hi (st .pre .1 .1 .1) (st .pre .1 .1 .2) _ _ (c .before .before .before .before .before .before .before .before .before .run-into .ensures) _ (c .before .before .before .before .before .get .ensures) .1, entered .here))
 
 add-put : tie.Need-add-put
 add-put c = search needs
-
-sub-put : tie.Need-sub-put
-sub-put c = search needs
 
 put-requires : tie.Need-put-requires
 put-requires c κs = search needs
@@ -99,12 +91,13 @@ returns c =
     let st = c .before .before .before .before .before .before .before .before .before .before .before .before .before .before .before .before .before in
     let a = st .args in
     let hi : a .i < a .n * a .m = omega (arith, st .pre .1 .0 .low, st .pre .1 .1 .0) in
-    step-done (a .g) _ _ _ _ _ _ (st .pre .0) (a .i) (a .s) (a .a) hi (st .pre .1 .1 .1) (st .pre .1 .1 .2) _ _ (c .before .before .before .before .before .before .before .before .before .before .before .before .before .before .run-into .ensures) _ (c .before .before .before .before .before .before .before .before .before .before .get .ensures) _ (st .pre .1 .0) _ _ (c .before .before .before .before .before .before .before .before .enter .ensures) _ (c .before .before .before .before .get2 .ensures) _ (c .before .before .put .ensures)
+    step-done (a .g) _ _ _ _ _ _ (st .pre .0) (a .i) (a .s) (a .a) hi (st .pre .1 .1 .1) (st .pre .1 .1 .2) _ _ (c .before .before .before .before .before .before .before .before .before .before .before .before .before .before .run-into .ensures) _ (c .before .before .before .before .before .before .before .before .before .before .get .ensures) _ (st .pre .1 .0) _ _ (c .before .before .before .before .before .before .before .before .enter .ensures) _ (c .before .before .before .before .place-of .ensures) _ (c .before .before .put .ensures)
 
 pub pair-step-spec : {M : Type 1} → statement M
 pair-step-spec =
     tie.close
     (tie.spec
+    mul-total
     div-q
     rem-run-into
     add-run-into
@@ -114,12 +107,9 @@ pair-step-spec =
     get-requires
     mul-pair
     add-pair
-    mul-enter
     enter-requires
-    add-get-2
-    get-requires-2
+    place-of-requires
     add-put
-    sub-put
     put-requires
     same-length
     returns)

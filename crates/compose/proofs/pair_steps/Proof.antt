@@ -30,7 +30,7 @@ pair-step-requires c κs =
     let inv = c .before .before .loop .inv .1 in
     let hi : a .i < a .n * a .m = (omega (arith, st .pre .1 .0 .low, st .pre .1 .1 .0)) in (
       composable-kept (a .g) _ _ _ _ _ _ (st .pre .0) _ (notes-inside (a .g) _ _ _ _ _ _ (st .pre .0) _ (a .i) hi (inv .grown .kept)),
-      (inv .grown .pairs, (omega (arith, inv .grown .more, st .pre .1 .1 .0), st .pre .1 .1 .1, omega arith)),
+      (inv .grown .list, (omega (arith, inv .grown .more, st .pre .1 .1 .0), st .pre .1 .1 .1, omega arith)),
     )
 
 add-a : tie.Need-add-a Inv-loop μ-loop

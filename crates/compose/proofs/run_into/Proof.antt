@@ -1,5 +1,4 @@
 use Rattle.compose.proofs.Runs.{runs-clear, ran-clear}
-use native.Mathlib.Omega.{arith}
 use borrow.Author.Needs.{needs}
 use Rattle.compose.proofs.run_into.Statement.{statement}
 use Rattle.compose.proofs.run_into.Tie as tie

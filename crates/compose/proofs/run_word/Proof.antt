@@ -1,4 +1,4 @@
-use Rattle.compose.proofs.Runs.{Running, Reading, running-start, reading, running-next, running-end}
+use Rattle.compose.proofs.Runs.{Running, running-start, reading, running-next, running-end}
 use native.Mathlib.Omega.{arith}
 use Prim.Native.Nat.{_-_}
 use borrow.Author.Needs.{needs}

@@ -7,7 +7,7 @@ use mathlib.Core.List.{List, _∷_, _++_}
 use lib.ListN.{length, length-set, length-append}
 use Rattle.tables.specs.Bytes.{tagged, joined, stepBytes, rowBytes}
 use Rattle.workspace.specs.Cells.{word}
-use Rattle.workspace.proofs.Cells.{word-length}
+use Rattle.workspace.proofs.Words.{word-length}
 use Rattle.encoder.specs.Encoding.{stepsIn, rowIn}
 use Rattle.encoder.proofs.Laws.{wrote-two, wrote-then, wrote-is}
 use Rattle.encoder.proofs.write_row.Statement.{statement}

@@ -7,7 +7,7 @@ use mathlib.Core.List.{List}
 use lib.ListN.{length, take, length-set}
 use Rattle.tables.specs.Bytes.{tagged}
 use Rattle.workspace.specs.Cells.{at, word}
-use Rattle.workspace.proofs.Cells.{word-length}
+use Rattle.workspace.proofs.Words.{word-length}
 use Rattle.encoder.specs.Encoding.{Wrote}
 use Rattle.encoder.proofs.Laws.{tagged-next, tagged-all, tagged-length, wrote-none, tag-got}
 use Rattle.encoder.proofs.write_word.Statement.{statement}

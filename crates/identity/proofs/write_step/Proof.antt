@@ -2,7 +2,7 @@
 use native.Mathlib.Omega.{arith}
 use borrow.Author.Needs.{needs}
 use mathlib.Core.List.{[], _∷_}
-use Rattle.workspace.proofs.Cells.{written-more}
+use Rattle.workspace.proofs.Words.{written-more}
 use Rattle.workspace.proofs.Holds.{stepped}
 use Rattle.identity.proofs.write_step.Statement.{statement}
 use Rattle.identity.proofs.write_step.Tie as tie

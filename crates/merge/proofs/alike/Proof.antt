@@ -1,8 +1,7 @@
 use mathlib.Core.Path.{sym, _∙_}
 use borrow.Author.Tests.{not-true, not-false}
-use Rattle.merge.proofs.Keys.{decides-is, decides-no, key-nexts, key-other, key-words}
+use Rattle.merge.proofs.Keys.{key-nexts, key-other, key-words}
 use Rattle.workspace.proofs.Views.{final-is, final-inner}
-use native.Mathlib.Omega.{arith}
 use borrow.Author.Needs.{needs}
 use Rattle.merge.proofs.alike.Statement.{statement}
 use Rattle.merge.proofs.alike.Tie as tie

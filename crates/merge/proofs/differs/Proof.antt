@@ -2,7 +2,6 @@ use native.Mathlib.Omega.{arith}
 use Prim.Native.Nat.{ℕ}
 use mathlib.Core.Path.{_≡_}
 use mathlib.Core.Logic.{inl, inr}
-use borrow.Author.Needs.{needs}
 use Rattle.merge.proofs.differs.Statement.{statement}
 use Rattle.merge.proofs.differs.Tie as tie
 use Rattle.merge.proofs.differs.Reads as reads

@@ -6,6 +6,7 @@ use borrow.Author.Needs.{needs}
 use Prim.Native.Nat.{ℕ, _+_, _*_, _-_, _≤_, _<_}
 use native.Mathlib.Omega.{arith}
 use mathlib.Core.Path.{_≡_, ap, _∙_}
+use Rattle.workspace.specs.Entries.{OUTPUT, FINAL}
 use Rattle.workspace.specs.Cells.{at}
 use Rattle.merge.specs.Seats.{mixed}
 use Rattle.merge.proofs.Seats.{mixed-next}
@@ -16,7 +17,7 @@ use Rattle.merge.proofs.digest_of.Lts as lts
 use Rattle.workspace.proofs.get.Reads as get-reads
 
 abbrev Inv-loop : tie.InvT-loop
-Inv-loop work g base n q tags h₀ a₀ h a = (a ≤ g .tags) × (h < 65536) × (h ≡ mixed (λ b. at g work (base + q) b 1) (at g work (base + q) (g .tags) 7) a)
+Inv-loop work g base n q tags h₀ a₀ h a = (a ≤ g .tags) × (h < 65536) × (h ≡ mixed (λ b. at g work (base + q) b OUTPUT) (at g work (base + q) (g .tags) FINAL) a)
 
 abbrev μ-loop : tie.MeasureT-loop
 μ-loop work g base n q tags h₀ a₀ h a = g .tags - a
@@ -55,14 +56,14 @@ loop-again c =
       omega arith,
       mod-lt (l .h * 31 + c .get2 .result) (omega arith),
       ap₂ (λ (x y : ℕ). (x * 31 + y) % 0x10000) (l .inv .2) (c .get2 .ensures .is)
-          ∙ mixed-next (λ b. at (a .g) (a .work .now) (a .base + a .q) b 1) (at (a .g) (a .work .now) (a .base + a .q) (a .g .tags) 7) (l .a),
+          ∙ mixed-next (λ b. at (a .g) (a .work .now) (a .base + a .q) b 1) (at (a .g) (a .work .now) (a .base + a .q) (a .g .tags) FINAL) (l .a),
     )
 
 returns : tie.Need-returns Inv-loop μ-loop
 returns c =
     let a = c .before .before .before .before .args in
     let e : c .before .loop .a ≡ a .g .tags = omega arith in
-    c .before .loop .inv .2 ∙ ap (mixed (λ b. at (a .g) (a .work .now) (a .base + a .q) b 1) (at (a .g) (a .work .now) (a .base + a .q) (a .g .tags) 7)) e
+    c .before .loop .inv .2 ∙ ap (mixed (λ b. at (a .g) (a .work .now) (a .base + a .q) b 1) (at (a .g) (a .work .now) (a .base + a .q) (a .g .tags) FINAL)) e
 
 pub digest-of-spec : {M : Type 1} → statement M
 digest-of-spec =

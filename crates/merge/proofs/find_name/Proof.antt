@@ -2,7 +2,7 @@ use mathlib.Core.Path.{sym, _∙_}
 use borrow.Author.Tests.{not-true, not-false}
 use Rattle.merge.proofs.Names.{Walking, walk-start, walk-next, walk-end, walk-hit}
 use native.Mathlib.Omega.{arith}
-use Prim.Native.Nat.{ℕ, _-_, _≤_, _<_}
+use Prim.Native.Nat.{_-_}
 use borrow.Author.Needs.{needs}
 use Rattle.merge.proofs.find_name.Statement.{statement}
 use Rattle.merge.proofs.find_name.Tie as tie

@@ -1,7 +1,8 @@
 use Rattle.merge.proofs.Seats.{part-seated}
 use Rattle.merge.proofs.Rounds.{Worded, Still, weight, flag, worded-first, worded-next, still-next, round-falls, merged-done}
 use Rattle.merge.specs.Classes.{Part}
-use Rattle.workspace.proofs.Cells.{kept-none, kept-then, kept-wider}
+use Rattle.workspace.proofs.Regions.{kept-none, kept-then, kept-wider}
+use Rattle.workspace.specs.Entries.{CLASS, LINK}
 use Rattle.workspace.specs.Cells.{Kept, Spare}
 use mathlib.Core.Path.{_≡_, ap, _∙_}
 use mathlib.Core.Bool.{false}
@@ -16,7 +17,7 @@ use Rattle.merge.proofs.round.Reads as round-reads
 use Rattle.merge.proofs.start_classes.Reads as start-classes-reads
 
 abbrev Inv-loop : tie.InvT-loop
-Inv-loop work₀ g base n going₀ work going = Kept g work₀ work (Spare g base (base + n) 1 4) × Part g work base n × Worded g work base n × (going ≡ false → Still g work base n)
+Inv-loop work₀ g base n going₀ work going = Kept g work₀ work (Spare g base (base + n) CLASS (LINK + 1)) × Part g work base n × Worded g work base n × (going ≡ false → Still g work base n)
 
 abbrev μ-loop : tie.MeasureT-loop
 μ-loop work₀ g base n going₀ work going = weight g work base n + flag going
@@ -51,7 +52,7 @@ same-length c = c .before .loop .inv .0 .long ∙ c .before .before .before .bef
 
 returns : tie.Need-returns Inv-loop μ-loop
 returns c = let st = c .before .before .before .before .before .before .before .before .before .before .before in let a = st .args in
-    let R = Spare (a .g) (a .base) (a .base + a .n) 1 4 in
+    let R = Spare (a .g) (a .base) (a .base + a .n) CLASS (LINK + 1) in
     merged-done (a .g) _ _ (a .base) (a .n) (st .pre .0)
     (kept-then (a .g) R _ _ _ (kept-then (a .g) R _ _ _ (kept-wider (a .g) R _ _ _ (c .before .before .before .before .before .before .before .before .start-classes .ensures .kept) (λ r c e i. (i .0, i .1, i .2, i .3, omega (arith, i .4)))) (c .before .before .before .before .round .ensures .kept)) (c .before .loop .inv .0))
     (c .before .loop .inv .1) (c .before .loop .inv .2) (c .before .loop .inv .3 (c .loop-test .left))

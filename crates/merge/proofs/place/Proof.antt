@@ -1,6 +1,4 @@
 use Rattle.merge.proofs.Names.{place-own, place-hit, place-miss, ready-link}
-use Rattle.workspace.proofs.Cells.{kept-wider}
-use Rattle.workspace.proofs.Views.{ready-kept}
 use native.Mathlib.Omega.{arith}
 use borrow.Author.Needs.{needs}
 use Rattle.merge.proofs.place.Statement.{statement}

@@ -1,6 +1,6 @@
 use borrow.Author.Tests.{not-true, not-false}
 use Rattle.merge.proofs.Keys.{all-next, decides-no, decides-yes}
-use Rattle.workspace.proofs.Views.{row-below, output-is, output-inner}
+use Rattle.workspace.proofs.Views.{output-is, output-inner}
 use Rattle.workspace.specs.Holds.{standing}
 use mathlib.Core.Path.{_≡_, sym, _∙_}
 use native.Mathlib.Omega.{arith}

@@ -3,8 +3,9 @@ use borrow.Author.Needs.{needs}
 use Prim.Native.Nat.{_+_, _-_, _≤_}
 use native.Mathlib.Omega.{arith}
 use mathlib.Core.Path.{_≡_, subst}
+use Rattle.workspace.specs.Entries.{CLASS, HEAD}
 use Rattle.workspace.specs.Cells.{Spare}
-use Rattle.workspace.proofs.Cells.{kept-none, kept-then}
+use Rattle.workspace.proofs.Regions.{kept-none, kept-then}
 use Rattle.merge.specs.Seats.{Seated}
 use Rattle.merge.proofs.seat_all.Statement.{statement}
 use Rattle.merge.proofs.seat_all.Tie as tie
@@ -19,7 +20,7 @@ abbrev μ-loop : tie.MeasureT-loop
 μ-loop work₀ g base n q₀ work q = n - q
 
 loop-holds : tie.Need-loop-holds Inv-loop μ-loop
-loop-holds c = let st = c .before in let a = st .args in (omega arith, record { kept = kept-none (a .g) (Spare (a .g) (a .base) (a .base + a .n) 1 3) (a .work .now); seating = st .pre })
+loop-holds c = let st = c .before in let a = st .args in (omega arith, record { kept = kept-none (a .g) (Spare (a .g) (a .base) (a .base + a .n) CLASS (HEAD + 1)) (a .work .now); seating = st .pre })
 
 seat-requires : tie.Need-seat-requires Inv-loop μ-loop
 seat-requires c κs = (c .before .before .loop .inv .1 .seating, omega arith)
@@ -34,7 +35,7 @@ loop-again : tie.Need-loop-again Inv-loop μ-loop
 loop-again c =
     let a = c .before .before .before .before .before .before .before .args in
     let s = c .before .before .seat .ensures in
-    (omega arith, record { kept = kept-then (a .g) (Spare (a .g) (a .base) (a .base + a .n) 1 3) _ _ _ (c .before .before .before .before .before .loop .inv .1 .kept) (s .kept); seating = s .seating })
+    (omega arith, record { kept = kept-then (a .g) (Spare (a .g) (a .base) (a .base + a .n) CLASS (HEAD + 1)) _ _ _ (c .before .before .before .before .before .loop .inv .1 .kept) (s .kept); seating = s .seating })
 
 same-length : tie.Need-same-length Inv-loop μ-loop
 same-length c = c .before .loop .inv .1 .kept .long

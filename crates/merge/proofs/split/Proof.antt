@@ -2,7 +2,7 @@ use Rattle.merge.proofs.Names.{parted-start, placed-then}
 use Rattle.merge.specs.Classes.{Placed}
 use mathlib.Core.Path.{_≡_, subst}
 use native.Mathlib.Omega.{arith}
-use Prim.Native.Nat.{ℕ, _-_, _≤_, _<_}
+use Prim.Native.Nat.{ℕ, _-_, _≤_}
 use borrow.Author.Needs.{needs}
 use Rattle.merge.proofs.split.Statement.{statement}
 use Rattle.merge.proofs.split.Tie as tie

@@ -1,7 +1,8 @@
 -- `merge::start_classes` meets its contract.
 use Prim.Native.Nat.{_+_}
+use Rattle.workspace.specs.Entries.{CLASS, HEAD}
 use Rattle.workspace.specs.Cells.{Spare}
-use Rattle.workspace.proofs.Cells.{kept-then}
+use Rattle.workspace.proofs.Regions.{kept-then}
 use Rattle.merge.proofs.Seats.{seating-start}
 use borrow.Author.Needs.{needs}
 use Rattle.merge.proofs.start_classes.Statement.{statement}
@@ -29,7 +30,7 @@ returns c =
     let a = st .args in
     let s = seating-start (a .g) (a .base) (a .n) _ _ (st .pre) (c .before .before .before .before .before .before .clear-notes .ensures) in
     let t = c .before .before .seat-all .ensures in
-    record { kept = kept-then (a .g) (Spare (a .g) (a .base) (a .base + a .n) 1 3) _ _ _ (s .kept) (t .kept); seating = t .seating }
+    record { kept = kept-then (a .g) (Spare (a .g) (a .base) (a .base + a .n) CLASS (HEAD + 1)) _ _ _ (s .kept) (t .kept); seating = t .seating }
 
 pub start-classes-spec : {M : Type 1} → statement M
 start-classes-spec =

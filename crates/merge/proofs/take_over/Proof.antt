@@ -2,7 +2,7 @@ use Rattle.merge.proofs.Rounds.{taken-start, taken-next}
 use Rattle.merge.specs.Classes.{Taken}
 use mathlib.Core.Path.{_≡_, subst}
 use native.Mathlib.Omega.{arith}
-use Prim.Native.Nat.{ℕ, _-_, _≤_, _<_}
+use Prim.Native.Nat.{ℕ, _-_, _≤_}
 use borrow.Author.Needs.{needs}
 use Rattle.merge.proofs.take_over.Statement.{statement}
 use Rattle.merge.proofs.take_over.Tie as tie

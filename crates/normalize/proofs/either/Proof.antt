@@ -1,9 +1,7 @@
 use native.Mathlib.Omega.{arith}
+use mathlib.Core.Path.{_≡_}
 use Prim.Native.Nat.{ℕ}
-use mathlib.Core.Bool.{true, false}
-use mathlib.Core.Path.{_≡_, refl}
 use mathlib.Core.Logic.{inl, inr}
-use borrow.Author.Needs.{needs}
 use Rattle.normalize.proofs.either.Statement.{statement}
 use Rattle.normalize.proofs.either.Tie as tie
 use Rattle.normalize.proofs.either.Reads as reads

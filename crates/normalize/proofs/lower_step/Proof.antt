@@ -1,5 +1,4 @@
 use Rattle.normalize.proofs.Lower.{turn-rest, turn-fall}
-use Rattle.workspace.proofs.Views.{row-below}
 use native.Mathlib.Omega.{arith}
 use borrow.Author.Needs.{needs}
 use Rattle.normalize.proofs.lower_step.Statement.{statement}

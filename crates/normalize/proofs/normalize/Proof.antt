@@ -1,6 +1,5 @@
 use Rattle.normalize.proofs.Done.{fronted, strips, finals-sized, finals, normalized, finals-place}
 use Rattle.normalize.proofs.Lower.{fronted-start}
-use native.Mathlib.Omega.{arith}
 use borrow.Author.Needs.{needs}
 use Rattle.normalize.proofs.normalize.Statement.{statement}
 use Rattle.normalize.proofs.normalize.Tie as tie

@@ -1,11 +1,10 @@
 use Rattle.normalize.proofs.Lower.{lowered-none, lowered-then, fronted-lowered, weight, flag, falls-on}
 use Rattle.normalize.specs.Fronts.{Rests, Lowered}
-use mathlib.Core.Path.{_≡_, refl, sym, subst, ap}
-use mathlib.Core.Bool.{true, false}
+use mathlib.Core.Path.{_≡_, sym, subst, ap}
+use mathlib.Core.Bool.{false}
 use mathlib.Core.List.{List}
 use native.Mathlib.Omega.{arith}
 use Prim.Native.Nat.{ℕ, _+_, _<_}
-use borrow.Author.Needs.{needs}
 use Rattle.normalize.proofs.settle.Statement.{statement}
 use Rattle.normalize.proofs.settle.Tie as tie
 use Rattle.normalize.proofs.settle.Reads as reads

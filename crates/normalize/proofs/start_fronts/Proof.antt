@@ -1,7 +1,6 @@
 use Rattle.normalize.proofs.Lower.{Starting, starting-none, starting-next}
-use Rattle.workspace.proofs.Views.{row-below}
 use native.Mathlib.Omega.{arith}
-use Prim.Native.Nat.{ℕ, _-_, _≤_}
+use Prim.Native.Nat.{_-_, _≤_}
 use borrow.Author.Needs.{needs}
 use Rattle.normalize.proofs.start_fronts.Statement.{statement}
 use Rattle.normalize.proofs.start_fronts.Tie as tie

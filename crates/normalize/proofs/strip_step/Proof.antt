@@ -1,8 +1,8 @@
 use Prim.Native.Nat.{_+_}
-use Rattle.workspace.proofs.Cells.{word-length}
+use Rattle.workspace.proofs.Words.{word-length}
 use Rattle.workspace.specs.Cells.{word}
 use lib.ListN.{length-drop}
-use Rattle.normalize.proofs.Strips.{to-inner, strip-in, strip-past, got-to, got-in, got-past}
+use Rattle.normalize.proofs.Strips.{got-to, got-in, got-past}
 use native.Mathlib.Omega.{arith}
 use borrow.Author.Needs.{needs}
 use Rattle.normalize.proofs.strip_step.Statement.{statement}

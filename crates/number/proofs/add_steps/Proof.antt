@@ -1,16 +1,16 @@
-use Prim.Native.Nat.{ℕ, _+_, _-_, _≤_}
+use Prim.Native.Nat.{_-_, _≤_}
 use native.Mathlib.Omega.{arith}
-use mathlib.Core.Path.{_≡_, refl}
 use Rattle.transducers.specs.Table.{row}
 use Rattle.transducers.specs.Number.{noteAll}
-use Rattle.number.specs.Order.{mergedAt, listed}
-use Rattle.number.proofs.Notes.{classed-kept, Adding, adding-start, adding-room, adding-next, adding-end}
+use Rattle.worklist.specs.Worklist.{listed}
+use Rattle.number.specs.Order.{mergedAt}
+use Rattle.number.proofs.Searching.{classed-kept, Adding, adding-start, adding-next, adding-end}
 use borrow.Author.Needs.{needs}
 use Rattle.number.proofs.add_steps.Statement.{statement}
 use Rattle.number.proofs.add_steps.Tie as tie
 use Rattle.number.proofs.add_steps.Reads as reads
 use Rattle.number.proofs.add_steps.Lts as lts
-use Rattle.number.proofs.add.Reads as add-reads
+use Rattle.worklist.proofs.enter.Reads as enter-reads
 use Rattle.number.proofs.next_class.Reads as next-class-reads
 
 abbrev Inv-loop : tie.InvT-loop
@@ -24,19 +24,16 @@ loop-holds : tie.Need-loop-holds Inv-loop μ-loop
 loop-holds c =
     let st = c .before in
     let a = st .args in
-    (omega arith, adding-start (a .g) _ _ _ _ (a .q) (st .pre .0 .classed) (st .pre .0 .room) (st .pre .1) (a .len) (st .pre .0 .marked) (st .pre .0 .some) refl)
+    (omega arith, adding-start (a .g) _ _ _ (a .len) (a .q) (st .pre .0) (st .pre .1 .1) (st .pre .1 .0))
 
 next-class-requires : tie.Need-next-class-requires Inv-loop μ-loop
 next-class-requires c κs =
     let st = c .before .before .before .before in
     let a = st .args in
-    (classed-kept (a .g) _ _ _ _ (st .pre .0 .classed) (c .before .before .loop .inv .1 .kept), (st .pre .1, omega arith))
+    (classed-kept (a .g) _ _ _ _ (st .pre .0) (c .before .before .loop .inv .1 .kept), (st .pre .1 .1, omega arith))
 
-add-requires : tie.Need-add-requires Inv-loop μ-loop
-add-requires c κs =
-    let st = c .before .before .before .before .before .before in
-    let a = st .args in
-    (adding-room (a .g) _ _ _ _ (a .q) (st .pre .0 .classed) (st .pre .0 .room) (st .pre .1) _ _ _ _ (omega arith) (c .before .next-class .ensures .0) (c .before .before .before .before .loop .inv .1), c .before .next-class .ensures .1)
+enter-requires : tie.Need-enter-requires Inv-loop μ-loop
+enter-requires c κs = (c .before .before .before .before .loop .inv .1 .list, c .before .next-class .ensures .1)
 
 add-a : tie.Need-add-a Inv-loop μ-loop
 add-a c = search needs
@@ -48,7 +45,7 @@ loop-again : tie.Need-loop-again Inv-loop μ-loop
 loop-again c =
     let st = c .before .before .before .before .before .before .before .before .before in
     let a = st .args in
-    (omega arith, adding-next (a .g) _ _ _ _ (a .q) (st .pre .0 .classed) (st .pre .0 .room) (st .pre .1) _ _ _ _ _ _ (omega arith) (c .before .before .before .before .next-class .ensures .0) (c .before .before .before .before .before .before .before .loop .inv .1) (c .before .before .add .ensures))
+    (omega arith, adding-next (a .g) _ _ _ (a .len) (a .q) (st .pre .0) (st .pre .1 .1) _ _ _ _ _ _ (omega arith) (c .before .before .before .before .next-class .ensures .0) (c .before .before .before .before .before .before .before .loop .inv .1) (c .before .before .enter .ensures))
 
 same-length : tie.Need-same-length Inv-loop μ-loop
 same-length c = c .before .loop .inv .1 .kept .long
@@ -57,7 +54,7 @@ returns : tie.Need-returns Inv-loop μ-loop
 returns c =
     let st = c .before .before .before in
     let a = st .args in
-    adding-end (a .g) _ _ _ _ (a .q) (st .pre .0 .classed) (st .pre .0 .room) (st .pre .1) _ _ _ (omega arith) (c .before .loop .inv .1)
+    adding-end (a .g) _ _ _ (a .len) (a .q) (st .pre .0) (st .pre .1 .1) _ _ _ (omega arith) (c .before .loop .inv .1)
 
 pub add-steps-spec : {M : Type 1} → statement M
 add-steps-spec =
@@ -67,7 +64,7 @@ add-steps-spec =
     μ-loop
     loop-holds
     next-class-requires
-    add-requires
+    enter-requires
     add-a
     loop-less
     loop-again

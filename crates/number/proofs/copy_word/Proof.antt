@@ -1,5 +1,5 @@
 use native.Mathlib.Omega.{arith}
-use Rattle.workspace.proofs.Cells.{sized-kept}
+use Rattle.workspace.proofs.Regions.{sized-kept}
 use Rattle.number.proofs.Rows.{copy-inner, copy-room, copied}
 use borrow.Author.Needs.{needs}
 use Rattle.number.proofs.copy_word.Statement.{statement}

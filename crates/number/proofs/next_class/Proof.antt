@@ -1,5 +1,5 @@
 use native.Mathlib.Omega.{arith}
-use Rattle.number.proofs.Notes.{next-at, class-at}
+use Rattle.number.proofs.Searching.{next-at, class-at}
 use borrow.Author.Needs.{needs}
 use Rattle.number.proofs.next_class.Statement.{statement}
 use Rattle.number.proofs.next_class.Tie as tie

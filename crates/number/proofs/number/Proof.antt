@@ -1,23 +1,23 @@
 use native.Mathlib.Omega.{arith}
-use Rattle.number.proofs.Notes.{classed-kept}
-use Rattle.number.proofs.Rows.{lists-self, ordered, too-many, all-rows}
+use Rattle.number.proofs.Searching.{slots, classed-kept}
+use Rattle.number.proofs.Rows.{ordered, too-many, all-rows}
 use borrow.Author.Needs.{needs}
 use Rattle.number.proofs.number.Statement.{statement}
 use Rattle.number.proofs.number.Tie as tie
 use Rattle.number.proofs.number.Reads as reads
 use Rattle.number.proofs.number.Lts as lts
-use Rattle.number.proofs.begin.Reads as begin-reads
+use Rattle.worklist.proofs.begin.Reads as begin-reads
 use Rattle.number.proofs.number_rows.Reads as number-rows-reads
 use Rattle.number.proofs.search.Reads as search-reads
 
 begin-requires : tie.Need-begin-requires
-begin-requires c κs = search needs
+begin-requires c κs = let st = c .before .before in slots (st .args .g) _ _ _ (st .pre .0)
 
 search-requires : tie.Need-search-requires
 search-requires c κs =
     let st = c .before .before .before .before .before .before in
     let a = st .args in
-    (classed-kept (a .g) _ _ _ _ (st .pre .0) (c .before .before .before .begin .ensures .kept), lists-self (a .g) _ _ _ _ _ _ (c .before .before .before .begin .ensures))
+    (classed-kept (a .g) _ _ _ _ (st .pre .0) (c .before .before .before .begin .ensures .kept), c .before .before .before .begin .ensures .list)
 
 same-length : tie.Need-same-length
 same-length c = search needs

@@ -25,7 +25,7 @@ copy-word-requires c κs =
     let st = c .before .before .before .before .before .before in
     let a = st .args in
     let on = rowing-kept (a .g) _ _ _ _ _ _ _ (st .pre) _ (c .before .before .before .number-steps .ensures .kept) in
-    (on .ordered .classed .sized, (inner-final (a .g) _ _ _ _ _ _ _ (on), omega (arith, st .pre .before, st .pre .place)))
+    (on .ordered .classed .ready .sized, (inner-final (a .g) _ _ _ _ _ _ _ (on), omega (arith, st .pre .before, st .pre .place)))
 
 same-length : tie.Need-same-length
 same-length c = search needs

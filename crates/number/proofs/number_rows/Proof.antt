@@ -1,4 +1,4 @@
-use Prim.Native.Nat.{ℕ, _+_, _-_, _≤_}
+use Prim.Native.Nat.{_-_, _≤_}
 use native.Mathlib.Omega.{arith}
 use mathlib.Core.Path.{_≡_, subst}
 use Rattle.workspace.specs.Holds.{Filling}
@@ -10,7 +10,7 @@ use Rattle.number.proofs.number_rows.Tie as tie
 use Rattle.number.proofs.number_rows.Reads as reads
 use Rattle.number.proofs.number_rows.Lts as lts
 use Rattle.number.proofs.number_row.Reads as number-row-reads
-use Rattle.workspace.proofs.get.Reads as get-reads
+use Rattle.worklist.proofs.member.Reads as member-reads
 
 abbrev Inv-loop : tie.InvT-loop
 Inv-loop work₀ g base n count to i₀ work i =
@@ -25,21 +25,17 @@ loop-holds c =
     let a = st .args in
     (omega arith, rows-start (a .g) _ _ _ (a .count) (a .to) (st .pre .0) (st .pre .1))
 
-add-get : tie.Need-add-get Inv-loop μ-loop
-add-get c = search needs
-
-get-requires : tie.Need-get-requires Inv-loop μ-loop
-get-requires c κs =
+member-requires : tie.Need-member-requires Inv-loop μ-loop
+member-requires c κs =
     let st = c .before .before .before .before in
     let a = st .args in
-    let on = ordered-kept (a .g) _ _ _ _ (a .to) (a .count) (st .pre .0) (st .pre .1) (c .before .before .loop .inv .1 .kept) in
-    omega (arith, on .classed .sized, st .pre .0 .low, st .pre .0 .classed .room)
+    (ordered-kept (a .g) _ _ _ _ (a .to) (a .count) (st .pre .0) (st .pre .1) (c .before .before .loop .inv .1 .kept) .list, omega arith)
 
 number-row-requires : tie.Need-number-row-requires Inv-loop μ-loop
 number-row-requires c κs =
     let st = c .before .before .before .before .before .before in
     let a = st .args in
-    rows-rowing (a .g) _ _ _ (a .count) (a .to) (st .pre .0) (st .pre .1) _ _ _ (omega arith) (c .before .before .before .before .loop .inv .1) (c .before .get .ensures)
+    rows-rowing (a .g) _ _ _ (a .count) (a .to) (st .pre .0) (st .pre .1) _ _ _ (omega arith) (c .before .before .before .before .loop .inv .1) (c .before .member .ensures .0)
 
 add-i : tie.Need-add-i Inv-loop μ-loop
 add-i c = search needs
@@ -70,8 +66,7 @@ number-rows-spec =
     Inv-loop
     μ-loop
     loop-holds
-    add-get
-    get-requires
+    member-requires
     number-row-requires
     add-i
     loop-less

@@ -25,7 +25,7 @@ copy-word-requires : tie.Need-copy-word-requires
 copy-word-requires c κs =
     let st = c .before .before .before .before in
     let a = st .args in
-    (st .pre .0 .ordered .classed .sized, (inner-output (a .g) _ _ _ _ _ _ _ (st .pre .0) (a .a) (st .pre .1), omega (arith, st .pre .0 .before, st .pre .0 .place)))
+    (st .pre .0 .ordered .classed .ready .sized, (inner-output (a .g) _ _ _ _ _ _ _ (st .pre .0) (a .a) (st .pre .1), omega (arith, st .pre .0 .before, st .pre .0 .place)))
 
 add-put : tie.Need-add-put
 add-put c = search needs

@@ -1,13 +1,13 @@
-use Prim.Native.Nat.{ℕ, _+_, _-_, _≤_}
+use Prim.Native.Nat.{_-_}
 use native.Mathlib.Omega.{arith}
-use Rattle.number.proofs.Notes.{Searching, searching-start, searching-state, searching-room, searching-next, searching-end}
+use Rattle.number.proofs.Searching.{classed-kept, Searching, searching-start, searching-next, searching-end}
 use borrow.Author.Needs.{needs}
 use Rattle.number.proofs.search.Statement.{statement}
 use Rattle.number.proofs.search.Tie as tie
 use Rattle.number.proofs.search.Reads as reads
 use Rattle.number.proofs.search.Lts as lts
 use Rattle.number.proofs.add_steps.Reads as add-steps-reads
-use Rattle.workspace.proofs.get.Reads as get-reads
+use Rattle.worklist.proofs.member.Reads as member-reads
 
 abbrev Inv-loop : tie.InvT-loop
 Inv-loop work₀ g base n len₀ i₀ work len i = Searching g base n work₀ work i len
@@ -21,31 +21,26 @@ loop-holds c =
     let a = st .args in
     searching-start (a .g) _ _ _ (st .pre .0) (st .pre .1)
 
-add-get : tie.Need-add-get Inv-loop μ-loop
-add-get c = search needs
-
-get-requires : tie.Need-get-requires Inv-loop μ-loop
-get-requires c κs = search needs
+member-requires : tie.Need-member-requires Inv-loop μ-loop
+member-requires c κs = (c .before .before .loop .inv .list, omega arith)
 
 add-steps-requires : tie.Need-add-steps-requires Inv-loop μ-loop
 add-steps-requires c κs =
     let st = c .before .before .before .before .before .before in
-    let a = st .args in
-    let got = c .before .get .ensures in
     let inv = c .before .before .before .before .loop .inv in
-    (searching-room (a .g) _ _ _ (st .pre .0) _ _ _ _ inv (omega arith) got, searching-state (a .g) _ _ _ (st .pre .0) _ _ _ _ inv (omega arith) got)
+    (classed-kept (st .args .g) _ _ _ _ (st .pre .0) (inv .kept), (inv .list, c .before .member .ensures .1))
 
 add-i : tie.Need-add-i Inv-loop μ-loop
 add-i c = search needs
 
 loop-less : tie.Need-loop-less Inv-loop μ-loop
-loop-less c = search needs
+loop-less c = let inv = c .before .before .before .before .before .before .before .loop .inv in omega (arith, inv .list .low)
 
 loop-again : tie.Need-loop-again Inv-loop μ-loop
 loop-again c =
     let st = c .before .before .before .before .before .before .before .before .before in
     let a = st .args in
-    searching-next (a .g) _ _ _ (st .pre .0) _ _ _ _ (c .before .before .before .before .before .before .before .loop .inv) (omega arith) (c .before .before .before .before .get .ensures) _ _ (c .before .before .add-steps .ensures)
+    searching-next (a .g) _ _ _ (st .pre .0) _ _ _ _ _ _ (omega arith) (c .before .before .before .before .member .ensures .0) (c .before .before .before .before .before .before .before .loop .inv) (c .before .before .add-steps .ensures)
 
 same-length : tie.Need-same-length Inv-loop μ-loop
 same-length c = c .before .loop .inv .kept .long
@@ -63,8 +58,7 @@ search-spec =
     Inv-loop
     μ-loop
     loop-holds
-    add-get
-    get-requires
+    member-requires
     add-steps-requires
     add-i
     loop-less

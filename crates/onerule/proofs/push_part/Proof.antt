@@ -1,4 +1,4 @@
-use Rattle.workspace.proofs.Cells.{Appending, appending-start, appending-next, appending-end}
+use Rattle.workspace.proofs.Appending.{Appending, appending-start, appending-next, appending-end}
 use native.Mathlib.Omega.{arith}
 use Prim.Native.Nat.{_-_}
 use borrow.Author.Needs.{needs}

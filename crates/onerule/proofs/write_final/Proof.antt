@@ -1,8 +1,8 @@
 use Rattle.onerule.proofs.Words.{held-lesser, held-none}
-use Rattle.workspace.proofs.Cells.{written-more, written-is}
+use Rattle.workspace.proofs.Words.{written-more, written-is}
 use Rattle.workspace.specs.Cells.{part}
-use Prim.Native.Nat.{min, ℕ}
-use mathlib.Core.Path.{sym, ap, _∙_}
+use Prim.Native.Nat.{ℕ}
+use mathlib.Core.Path.{ap, _∙_}
 use native.Mathlib.Omega.{arith}
 use borrow.Author.Needs.{needs}
 use Rattle.onerule.proofs.write_final.Statement.{statement}

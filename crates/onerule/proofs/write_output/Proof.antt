@@ -1,8 +1,9 @@
 use Rattle.onerule.proofs.Words.{goes-le, says-end, says-match, says-short, says-back-all}
-use Rattle.workspace.proofs.Cells.{more-size, written-more, written-is, part-length}
+use Rattle.workspace.proofs.Words.{more-size, written-more, written-is}
+use Rattle.workspace.proofs.Appending.{part-length}
 use Rattle.workspace.specs.Cells.{part}
 use lib.ListN.{length}
-use Prim.Native.Nat.{_+_, _-_, ℕ}
+use Prim.Native.Nat.{_+_, ℕ}
 use mathlib.Core.List.{[], _∷_, _++_, List}
 use mathlib.Core.Path.{ap, _∙_}
 use native.Mathlib.Omega.{arith}

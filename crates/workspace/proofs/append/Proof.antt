@@ -1,5 +1,6 @@
 use Rattle.workspace.specs.Cells.{word, Cell}
-use Rattle.workspace.proofs.Cells.{Appending, appending-start, appending-next, appending-end, tag-kept, word-length}
+use Rattle.workspace.proofs.Words.{tag-kept, word-length}
+use Rattle.workspace.proofs.Appending.{Appending, appending-start, appending-next, appending-end}
 use Prim.Native.Nat.{_-_}
 use native.Mathlib.Omega.{arith}
 use borrow.Author.Needs.{needs}

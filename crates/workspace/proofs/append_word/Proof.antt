@@ -1,5 +1,6 @@
 use Prim.Native.Nat.{ℕ}
-use Rattle.workspace.proofs.Cells.{written-is, part-whole}
+use Rattle.workspace.proofs.Words.{written-is}
+use Rattle.workspace.proofs.Appending.{part-whole}
 use Rattle.workspace.specs.Cells.{word}
 use mathlib.Core.List.{List, _++_}
 use mathlib.Core.Path.{ap}

@@ -1,4 +1,4 @@
-use Rattle.workspace.proofs.Cells.{word-clear}
+use Rattle.workspace.proofs.Words.{word-clear}
 use borrow.Author.Needs.{needs}
 use Rattle.workspace.proofs.clear.Statement.{statement}
 use Rattle.workspace.proofs.clear.Tie as tie

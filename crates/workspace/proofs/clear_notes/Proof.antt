@@ -4,7 +4,7 @@ use Prim.Native.Nat.{_-_, _≤_}
 use native.Mathlib.Omega.{arith}
 use mathlib.Core.Path.{_≡_, subst}
 use Rattle.workspace.specs.Cells.{Sized, Cleared}
-use Rattle.workspace.proofs.Cells.{sized-kept, cleared-start, cleared-next}
+use Rattle.workspace.proofs.Regions.{sized-kept, cleared-start, cleared-next}
 use Rattle.workspace.proofs.clear_notes.Statement.{statement}
 use Rattle.workspace.proofs.clear_notes.Tie as tie
 use Rattle.workspace.proofs.clear_notes.Reads as reads

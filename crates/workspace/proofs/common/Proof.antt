@@ -1,5 +1,6 @@
 use lib.Seq.{getD-take, length-take-le}
-use Rattle.workspace.proofs.Cells.{meet-start, meet-next, meet-ends, meet-whole, word-at, word-length}
+use Rattle.workspace.proofs.Words.{word-at, word-length}
+use Rattle.workspace.proofs.Fronts.{meet-start, meet-next, meet-ends, meet-whole}
 use Rattle.workspace.specs.Cells.{word}
 use Rattle.words.specs.Front.{meet}
 use lib.ListN.{length, take, drop, getD}

@@ -1,5 +1,4 @@
-use Rattle.workspace.proofs.Cells.{Shifting, shifting-start, shifting-next, shifting-end, dropped-none}
-use mathlib.Core.Path.{_≡_, subst}
+use Rattle.workspace.proofs.Shifting.{Shifting, shifting-start, shifting-next, shifting-end, dropped-none}
 use native.Mathlib.Omega.{arith}
 use Prim.Native.Nat.{_-_}
 use borrow.Author.Needs.{needs}

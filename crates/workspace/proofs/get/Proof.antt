@@ -1,6 +1,6 @@
 use lib.ListN.{getD}
 use mathlib.Core.Path.{ap, _∙_}
-use Rattle.workspace.proofs.Cells.{ix-length, got-at}
+use Rattle.workspace.proofs.Places.{ix-length, got-at}
 use native.Mathlib.Omega.{arith}
 use borrow.Author.Needs.{needs}
 use Rattle.workspace.proofs.get.Statement.{statement}

@@ -1,6 +1,6 @@
 use native.Mathlib.Omega.{arith}
 use Rattle.workspace.specs.Cells.{ix}
-use Rattle.workspace.proofs.Cells.{ix-below, ix-parts}
+use Rattle.workspace.proofs.Places.{ix-below, ix-parts}
 use borrow.Author.Needs.{needs}
 use Rattle.workspace.proofs.index_of.Statement.{statement}
 use Rattle.workspace.proofs.index_of.Tie as tie

@@ -1,4 +1,4 @@
-use Rattle.workspace.proofs.Cells.{word-push}
+use Rattle.workspace.proofs.Words.{word-push}
 use native.Mathlib.Omega.{arith}
 use borrow.Author.Needs.{needs}
 use Rattle.workspace.proofs.push.Statement.{statement}

@@ -1,4 +1,4 @@
-use Rattle.workspace.proofs.Cells.{ix-length, put-at}
+use Rattle.workspace.proofs.Places.{ix-length, put-at}
 use native.Mathlib.Omega.{arith}
 use borrow.Author.Needs.{needs}
 use Rattle.workspace.proofs.put.Statement.{statement}

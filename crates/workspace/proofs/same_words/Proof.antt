@@ -1,6 +1,5 @@
-use Rattle.workspace.proofs.Cells.{words-decided, words-other}
-use mathlib.Core.Path.{sym, _∙_}
-use native.Mathlib.Omega.{arith}
+use Rattle.workspace.proofs.Fronts.{words-decided, words-other}
+use mathlib.Core.Path.{_∙_}
 use borrow.Author.Needs.{needs}
 use Rattle.workspace.proofs.same_words.Statement.{statement}
 use Rattle.workspace.proofs.same_words.Tie as tie

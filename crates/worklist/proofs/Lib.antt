@@ -1,0 +1,2 @@
+-- Laws of the worklist.
+pub mod Marks

@@ -1,0 +1,2 @@
+-- A list in the notes of rows, with marks.
+pub mod Worklist
