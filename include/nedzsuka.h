@@ -13,7 +13,8 @@
      beyond the result keeps its bytes.
    - The other slices are only read, the work slice of compile excepted.
    - It allocates nothing and keeps nothing from one call to the next: several threads may call at once, each with output and work
-     slices of its own. nedzsuka_run_table takes some 101,000 bytes of the stack whatever the table, the other two less than 2,000.
+     slices of its own. nedzsuka_run_table takes less than 2,000 bytes of the stack if S * (K + 1) is at most 192, some 10,200 if it is
+     at most 1,024, some 35,000 if it is at most 4,096, else some 102,500; the other two take less than 2,000.
 
    What is asked of the caller
    - A pointer reaches as many entries as the length beside it says. It may be null only where that length is 0.

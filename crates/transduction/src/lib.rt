@@ -136,14 +136,16 @@ fn run_large(table: &[u8], k: usize, s: usize, sentence: &[u8], out: &mut [u8]) 
     run_within(table, k, s, sentence, out, &mut index)
 }
 
-fn run_states(table: &[u8], k: usize, s: usize, sentence: &[u8], out: &mut [u8]) -> RunAnswer
+// The run of a table that needs more than the small index. The function calls itself in a branch that is never taken: so the compiler
+// keeps it, and each larger index, in a frame of its own, and a small table needs little of the stack.
+fn run_beyond(table: &[u8], k: usize, s: usize, sentence: &[u8], out: &mut [u8]) -> RunAnswer
     requires { ⌜ Head (now table) k s ⌝ }
     ensures { λ r. ⌜ Ran (tableRun (now (table .entry)) (now (sentence .entry)) (length (now (out .entry)))) (now (sentence .entry)) (now (out .entry)) (now (out .exit)) r ⌝ }
 {
-    let n = decoder::entries(k, s);
-    if n <= SMALL {
-        return run_small(table, k, s, sentence, out);
+    if limits::TAGS < k {
+        return run_beyond(table, k, s, sentence, out);
     }
+    let n = decoder::entries(k, s);
     if n <= MIDDLE {
         return run_middle(table, k, s, sentence, out);
     }
@@ -151,6 +153,16 @@ fn run_states(table: &[u8], k: usize, s: usize, sentence: &[u8], out: &mut [u8])
         return run_big(table, k, s, sentence, out);
     }
     run_large(table, k, s, sentence, out)
+}
+
+fn run_states(table: &[u8], k: usize, s: usize, sentence: &[u8], out: &mut [u8]) -> RunAnswer
+    requires { ⌜ Head (now table) k s ⌝ }
+    ensures { λ r. ⌜ Ran (tableRun (now (table .entry)) (now (sentence .entry)) (length (now (out .entry)))) (now (sentence .entry)) (now (out .entry)) (now (out .exit)) r ⌝ }
+{
+    if decoder::entries(k, s) <= SMALL {
+        return run_small(table, k, s, sentence, out);
+    }
+    run_beyond(table, k, s, sentence, out)
 }
 
 // Runs a table over a sentence: the number of changed tags, or 12, 13, 4 or 11 in that order.
