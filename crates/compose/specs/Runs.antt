@@ -10,7 +10,7 @@ use Rattle.workspace.specs.Cells.{word, Sized, Inner, Written}
 use Rattle.workspace.specs.Holds.{Holds, tableAt, standing}
 
 -- from its state q over the word at (r, c, s), to the cell (r2, c2), where there is room after so many entries
-pub record Runs (g : Grid) (W : List ℕ) (base m q r c s r2 c2 behind : ℕ) : Type 0 where
+pub record Runs (g : Grid) (W : List ℕ) (base m q r c s r2 c2 after : ℕ) : Type 0 where
   pub sized : Sized g W
   pub holds : Holds g W base (tableAt g W base m)
   pub state : q < m
@@ -20,7 +20,7 @@ pub record Runs (g : Grid) (W : List ℕ) (base m q r c s r2 c2 behind : ℕ) : 
   pub cell : c2 < g .tags + 1
   pub other : (r ≡ r2) → (c ≡ c2) → ⊥
   pub before : r2 < base
-  pub room : behind + length (outputs (standing g W base m) q (word g W r c s)) < g .depth
+  pub room : after + length (outputs (standing g W base m) q (word g W r c s)) < g .depth
 
 -- the state that it comes to, and the word that the cell has then
 pub record Ran (g : Grid) (W X : List ℕ) (base m q r c s r2 c2 s2 : ℕ) (front : List ℕ) (to : ℕ) : Type 0 where

@@ -85,7 +85,7 @@ fn push_part(
     }
 }
 
-// Behind the empty word: what is put out where the first j tags were matched and a comes.
+// After the empty word: what is put out where the first j tags were matched and a comes.
 fn write_output(
     work: &mut [u16],
     g: Grid,
