@@ -19,7 +19,7 @@ use Rattle.transducers.proofs.Tabulate.{length-table}
 use Rattle.transducers.proofs.Normalize.{doing-normalize, early-normalize}
 use Rattle.transducers.proofs.Merge.{doing-merge, early-merge, apart-merge}
 use Rattle.transducers.proofs.Number.{doing-number, canonical-number}
-use Rattle.minimal.specs.OneRule.{oneRule, ruleTable}
+use Rattle.minimal.specs.OneRule.{ruleTable}
 use Rattle.minimal.proofs.TableOf.{Good, good-add, good-only, doing-rule}
 use Rattle.workspace.specs.declared.Grid.{Grid}
 use Rattle.workspace.specs.Entries.{CLASS, LINK}
@@ -28,7 +28,7 @@ use Rattle.workspace.specs.Holds.{Holds, Ready, tableAt}
 use Rattle.workspace.proofs.Regions.{kept-then, kept-wider, sized-kept}
 use Rattle.workspace.proofs.Holds.{holds-kept, length-at, table-at, holds-at}
 use Rattle.workspace.proofs.Views.{same-table, ready-kept}
-use Rattle.onerule.specs.Rule.{Room}
+use Rattle.onerule.specs.Rule.{Room, Ruled}
 use Rattle.compose.specs.Composed.{Composable, Composed}
 use Rattle.normalize.specs.Strip.{Normalized}
 use Rattle.merge.specs.Classes.{Merged}
@@ -59,12 +59,8 @@ module _ (g : Grid) (W : List ℕ) (n ceiling : ℕ) (r : Rule) (ok : Addable g 
   abbrev five : ℕ
   five = longest-pattern - 1
 
-  -- what the rule's table does
   rule-doing : Doing k five (apply r) (ruleTable k r)
   rule-doing = doing-rule longest-pattern k r (ok .valid)
-
-  rule-long : length (ruleTable k r) ≡ length (r .pattern) + 1
-  rule-long = length-table k (oneRule r) ∙ omega arith
 
   pub room : Room g W r
   room =
@@ -77,37 +73,39 @@ module _ (g : Grid) (W : List ℕ) (n ceiling : ℕ) (r : Rule) (ok : Addable g 
   pub rule-fits : 8 * ceiling + (length (r .pattern) + 1) ≤ g .rows
   rule-fits = omega (arith, ok .valid .short, ok .rows, ok .some)
 
-  product-fits : ceiling + n * (length (r .pattern) + 1) ≤ 8 * ceiling
-  product-fits =
-      let short : length (r .pattern) + 1 ≤ 7 = omega (arith, ok .valid .short) in
-      omega (arith, mul-le-mul-left n short, ok .few)
-
   -- the rule's table has been written to the rows from 8 × ceiling
-  module _ (X : List ℕ) (rule-holds : Holds g X (8 * ceiling) (ruleTable k r))
-      (kept : Kept g W X (In-rows (8 * ceiling) (8 * ceiling + (length (r .pattern) + 1)))) where
+  module _ (X : List ℕ) (m : ℕ) (ruled : Ruled g W X (8 * ceiling) m r) where
+    u-doing : Doing k five (apply r) (ruled .table)
+    u-doing = ruled .doing longest-pattern (ok .valid)
+
+    product-fits : ceiling + n * m ≤ 8 * ceiling
+    product-fits =
+        let short : m ≤ 7 = omega (arith, ok .valid .short, ruled .few) in
+        omega (arith, mul-le-mul-left n short, ok .few)
+
     first-holds : Holds g X 0 (tableAt g W 0 n)
     first-holds =
-        holds-kept g (In-rows (8 * ceiling) (8 * ceiling + (length (r .pattern) + 1))) W X kept 0 (tableAt g W 0 n) (ok .holds)
+        holds-kept g (In-rows (8 * ceiling) (8 * ceiling + m)) W X (ruled .kept) 0 (tableAt g W 0 n) (ok .holds)
         (λ q a e hq ha p. omega (arith, p .0, length-at g W 0 n, ok .few, ok .some)) (λ q e hq he p. omega (arith, p .0, length-at g W 0 n, ok .few, ok .some))
 
     pub first-same : tableAt g X 0 n ≡ tableAt g W 0 n
     first-same = table-at g X 0 n (tableAt g W 0 n) first-holds (length-at g W 0 n)
 
-    pub second-same : tableAt g X (8 * ceiling) (length (r .pattern) + 1) ≡ ruleTable k r
-    second-same = table-at g X (8 * ceiling) (length (r .pattern) + 1) (ruleTable k r) rule-holds rule-long
+    pub second-same : tableAt g X (8 * ceiling) m ≡ ruled .table
+    second-same = table-at g X (8 * ceiling) m (ruled .table) (ruled .holds) (ruled .long)
 
-    pub composable : Composable g X 0 n (8 * ceiling) (length (r .pattern) + 1) ceiling
+    pub composable : Composable g X 0 n (8 * ceiling) m ceiling
     composable =
         record {
-          sized = sized-kept g W X (ok .sized) (kept .long);
+          sized = sized-kept g W X (ok .sized) (ruled .kept .long);
           first-holds = rw first-same first-holds;
-          second-holds = rw second-same rule-holds;
+          second-holds = rw second-same (ruled .holds);
           first-sound = rw first-same (ok .doing .sound);
-          second-sound = rw second-same (rule-doing .sound);
+          second-sound = rw second-same (u-doing .sound);
           first-most = ok .most;
           second-most = five;
           first-held = rw first-same (ok .doing .held);
-          second-held = rw second-same (rule-doing .held);
+          second-held = rw second-same (u-doing .held);
           room = ok .deep;
           below = omega (arith, ok .few);
           above = product-fits;
@@ -115,26 +113,26 @@ module _ (g : Grid) (W : List ℕ) (n ceiling : ℕ) (r : Rule) (ok : Addable g 
         }
 
     -- the composition stands in the rows from the ceiling
-    module _ (Y : List ℕ) (count : ℕ) (composed : Composed g Y ceiling count (tableAt g X 0 n) (tableAt g X (8 * ceiling) (length (r .pattern) + 1)))
-        (kept-2 : Kept g X Y (In-rows ceiling (ceiling + n * (length (r .pattern) + 1)))) where
+    module _ (Y : List ℕ) (count : ℕ) (composed : Composed g Y ceiling count (tableAt g X 0 n) (tableAt g X (8 * ceiling) m))
+        (kept-2 : Kept g X Y (In-rows ceiling (ceiling + n * m))) where
       abbrev made : List ℕ → List ℕ
       made = λ w. apply r (ok .makes w)
 
       pub composed-doing : Doing k (ok .most + five) made (composed .table)
-      composed-doing = composed .doing (ok .most) five (ok .makes) (apply r) (rw first-same (ok .doing)) (rw second-same rule-doing)
+      composed-doing = composed .doing (ok .most) five (ok .makes) (apply r) (rw first-same (ok .doing)) (rw second-same u-doing)
 
-      count-fits : count ≤ n * (length (r .pattern) + 1)
+      count-fits : count ≤ n * m
       count-fits =
           let e : length (tableAt g X 0 n) ≡ n = length-at g X 0 n in
-          let f : length (tableAt g X (8 * ceiling) (length (r .pattern) + 1)) ≡ length (r .pattern) + 1 = length-at g X (8 * ceiling) (length (r .pattern) + 1) in
-          subst (λ (i : ℕ). count ≤ i * (length (r .pattern) + 1)) e
+          let f : length (tableAt g X (8 * ceiling) m) ≡ m = length-at g X (8 * ceiling) m in
+          subst (λ (i : ℕ). count ≤ i * m) e
           (subst (λ (i : ℕ). count ≤ length (tableAt g X 0 n) * i) f (composed .few))
 
       count-rows : ceiling + count ≤ 8 * ceiling
       count-rows = omega (arith, count-fits, product-fits)
 
       sized-2 : Sized g Y
-      sized-2 = sized-kept g W Y (ok .sized) (kept-2 .long ∙ kept .long)
+      sized-2 = sized-kept g W Y (ok .sized) (kept-2 .long ∙ ruled .kept .long)
 
       pub ready-composed : Ready g Y ceiling count
       ready-composed =
@@ -219,9 +217,9 @@ module _ (g : Grid) (W : List ℕ) (n ceiling : ℕ) (r : Rule) (ok : Addable g 
             all-rows : Kept g W U (In-rows 0 (g .rows))
             all-rows =
                 kept-then g (In-rows 0 (g .rows)) W X U
-                (kept-wider g (In-rows 0 (g .rows)) (In-rows (8 * ceiling) (8 * ceiling + (length (r .pattern) + 1))) W X kept (λ r' c' e' p. (omega arith, omega (arith, p .1, rule-fits))))
+                (kept-wider g (In-rows 0 (g .rows)) (In-rows (8 * ceiling) (8 * ceiling + m)) W X (ruled .kept) (λ r' c' e' p. (omega arith, omega (arith, p .1, rule-fits, ruled .few))))
                 (kept-then g (In-rows 0 (g .rows)) X Y U
-                (kept-wider g (In-rows 0 (g .rows)) (In-rows ceiling (ceiling + n * (length (r .pattern) + 1))) X Y kept-2 (λ r' c' e' p. (omega arith, omega (arith, p .1, product-fits, ok .rows, ok .some))))
+                (kept-wider g (In-rows 0 (g .rows)) (In-rows ceiling (ceiling + n * m)) X Y kept-2 (λ r' c' e' p. (omega arith, omega (arith, p .1, product-fits, ok .rows, ok .some))))
                 (kept-then g (In-rows 0 (g .rows)) Y Z U
                 (kept-wider g (In-rows 0 (g .rows)) (In-rows ceiling (ceiling + count)) Y Z (normalized .kept) (λ r' c' e' p. (omega arith, omega (arith, p .1, count-rows, ok .rows, ok .some))))
                 (kept-then g (In-rows 0 (g .rows)) Z T U

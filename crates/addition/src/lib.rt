@@ -18,8 +18,7 @@ pub fn add_rule(
     ensures { λ count. ⌜ Added g (now (work .entry)) (now (work .exit)) n ceiling (rule (now (u .entry)) place tag) count ⌝ }
 {
     let second = 8 * ceiling;
-    let m = u.len() + 1;
-    onerule::write_rule(work, g, second, u, place, tag);
+    let m = onerule::write_rule(work, g, second, u, place, tag);
     let count = compose::compose(work, g, 0, n, second, m, ceiling);
     normalize::normalize(work, g, ceiling, count);
     merge::merge(work, g, ceiling, count);

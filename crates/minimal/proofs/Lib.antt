@@ -1,4 +1,5 @@
 -- Laws of the smallest table of a cascade.
+pub mod Matcher
 pub mod OneRule
 pub mod TableOf
 pub mod Theorems

@@ -2,26 +2,28 @@
 use Prim.Native.Nat.{ℕ, zero, suc, _+_, _-_, _≤_, _<_}
 use native.Mathlib.Omega.{arith}
 use native.Mathlib.Decide.{ℕ-discrete, decLt}
-use mathlib.Core.Path.{_≡_, refl, sym, ap, ap₂, _∙_}
+use mathlib.Core.Path.{_≡_, refl, sym, ap, ap₂, _∙_, subst}
 use mathlib.Core.Logic.{_⊎_, inl, inr}
 use mathlib.Core.List.{List, [], _∷_, _++_, append-assoc, append-nil, append-cancel-left}
 use mathlib.Core.Bool.{Bool, true, false, false≢true}
-use lib.ListN.{length, take, drop, getD, length-append, length-take, length-drop, length-set, take-append-drop, drop-of-length-le}
+use lib.ListN.{length, take, drop, getD, set, length-append, length-drop, length-set, take-append-drop, drop-of-length-le}
 use lib.Seq.{take-all, take-take, take-append-seam, take-append-add, take-at, drop-append-seam, take-set-le, getD-set-same, getD-take, take-suc, drop-cons, length-take-le}
 use lib.Dec.{eqb}
 use borrow.Author.Tests.{eq-eqb, ne-eqb}
 use Rattle.words.specs.Word.{Below, prefix}
 use Rattle.words.specs.Front.{first}
-use Rattle.words.specs.Overlap.{overlap, skipped}
+use Rattle.words.specs.Overlap.{overlap}
 use Rattle.words.proofs.Word.{below-suc, below-append, below-take, below-drop, below-set, prefix-append, prefix-split, prefix-shorter, prefix-length}
-use Rattle.words.proofs.Overlap.{overlap-split, overlap-le, overlap-prefix, overlap-full}
+use Rattle.words.proofs.Overlap.{overlap-le, overlap-prefix}
 use Rattle.cascades.specs.Rule.{Rule, replaced, ValidRule}
 use Rattle.cascades.specs.Rewrite.{rewrite, apply}
 use Rattle.transducers.specs.Transducer.{puts}
 use Rattle.transducers.specs.Run.{walk}
 use Rattle.transducers.specs.Canonical.{Same, Free, Minimal, Sound, Held}
 use Rattle.transducers.proofs.Run.{walk-append}
-use Rattle.minimal.specs.OneRule.{held, goes, says, oneRule}
+use Rattle.minimal.specs.Matcher.{Matcher, held, said, moves, matching}
+use Rattle.minimal.specs.OneRule.{borders, oneRule}
+use Rattle.minimal.proofs.Matcher.{ending, Fronts, Rewrites, Matches, held-in, held-all, held-length, said-after, moves-after, moves-match, moves-on, does-before, sound-matching, held-matching}
 
 -- a word shorter than u is unchanged
 pub rewrite-short : (u v w : List ℕ) → length w < length u → rewrite u v w ≡ w
@@ -37,31 +39,90 @@ pub rewrite-front : (u v x : List ℕ) → 0 < length u → rewrite u v (u ++ x)
 rewrite-front [] v x h = absurd (omega arith)
 rewrite-front (b ∷ u) v x h = rw (prefix-append (b ∷ u) x, rewrite) (ap (λ (l : List ℕ). v ++ l) (drop-append-seam (b ∷ u) x))
 
--- no match begins before the overlap: rewriting passes over what is skipped
-pub rewrite-overlap : (u v t x : List ℕ) → length t ≤ length u → rewrite u v (t ++ x) ≡ skipped u t ++ rewrite u v (take (overlap u t) u ++ x)
-rewrite-overlap u v [] x le = refl
-rewrite-overlap u v (b ∷ t) x le = go (prefix (b ∷ t) u) refl (rewrite-overlap u v t x (omega arith))
+-- the borders are a matcher of the words that begin u
+prefix-left : (z w u : List ℕ) → prefix (z ++ w) u ≡ true → prefix z u ≡ true
+prefix-left [] w u e = refl
+prefix-left (a ∷ z) w [] e = e
+prefix-left (a ∷ z) w (b ∷ u) e = by (eqb a b) (prefix-left z w u) e
   where
-    pass : (c : Bool) → prefix u (b ∷ (t ++ x)) ≡ c → prefix (b ∷ t) u ≡ false
-        → elim c [ true ↦ v ++ drop (length u) (b ∷ (t ++ x)) | false ↦ b ∷ rewrite u v (t ++ x) ] ≡ b ∷ rewrite u v (t ++ x)
-    pass true e no-prefix = absurd (false≢true (sym no-prefix ∙ prefix-shorter u (b ∷ t) x le e))
-    pass false e no-prefix = refl
+    by : (c : Bool) → (prefix (z ++ w) u ≡ true → prefix z u ≡ true) → elim c [ true ↦ prefix (z ++ w) u | false ↦ false ] ≡ true → elim c [ true ↦ prefix z u | false ↦ false ] ≡ true
+    by true f e = f e
+    by false f e = e
 
-    go : (c : Bool) → prefix (b ∷ t) u ≡ c → rewrite u v (t ++ x) ≡ skipped u t ++ rewrite u v (take (overlap u t) u ++ x)
-        → rewrite u v (b ∷ (t ++ x))
-        ≡ elim c [ true ↦ [] | false ↦ b ∷ skipped u t ] ++ rewrite u v (take (elim c [ true ↦ suc (length t) | false ↦ overlap u t ]) u ++ x)
-    go true e rest =
-        let front : take (length (b ∷ t)) u ≡ b ∷ t = ap (take (length (b ∷ t))) (prefix-split (b ∷ t) u e)
-        ∙ take-append-seam (b ∷ t) (drop (length (b ∷ t)) u) in
-        ap (λ (l : List ℕ). rewrite u v (l ++ x)) (sym front)
-    go false e rest = pass (prefix u (b ∷ (t ++ x))) refl e ∙ ap {B = List ℕ} (λ l. b ∷ l) rest
+prefix-take : (z u : List ℕ) → prefix z u ≡ true → z ≡ take (length z) u
+prefix-take z u e = sym (ap (take (length z)) (prefix-split z u e) ∙ take-append-seam z (drop (length z) u))
 
--- what comes before an end that is cut off
-cut : (a b c e : List ℕ) → a ++ b ≡ c ++ e → length e ≤ length b → a ++ take (length b - length e) b ≡ c
-cut a b c e h le =
-    sym (take-append-add a b (length b - length e))
-    ∙ ap (take (length a + (length b - length e))) h
-    ∙ take-at c e (length a + (length b - length e)) (omega (arith, simp length-append at (ap length h)))
+prefix-whole : (m u : List ℕ) → prefix m u ≡ true → length m ≡ length u → m ≡ u
+prefix-whole m u e l = prefix-take m u e ∙ take-all (length m) u (omega arith)
+
+overlap-ending : (u t : List ℕ) → overlap u t ≡ length (ending (λ z. prefix z u) t)
+overlap-ending u [] = refl
+overlap-ending u (b ∷ t) = by (prefix (b ∷ t) u) (overlap-ending u t)
+  where
+    by : (c : Bool) → overlap u t ≡ length (ending (λ z. prefix z u) t)
+        → elim c as (λ x. ℕ) [ true ↦ suc (length t) | false ↦ overlap u t ] ≡ length {A = ℕ} (elim c as (λ x. List ℕ) [ true ↦ b ∷ t | false ↦ ending (λ z. prefix z u) t ])
+    by true e = refl
+    by false e = e
+
+module _ (u : List ℕ) where
+  pub overlap-step : (s a : ℕ) → s < length u → (overlap u (take s u ++ (a ∷ [])) ≤ suc s) × (overlap u (take s u ++ (a ∷ [])) ≤ length u)
+  overlap-step s a h =
+      let o = overlap-le u (take s u ++ (a ∷ [])) in
+      (omega (arith, o .0, length-append (take s u) (a ∷ []), length-take-le s u (omega arith)), o .1)
+
+  -- before the whole pattern is matched a step goes to the overlap
+  pub borders-move : (j a : ℕ) → j < length u → moves (length u) (borders u) j a ≡ overlap u (take j u ++ (a ∷ []))
+  borders-move j a h = by (ℕ-discrete (overlap u (take j u ++ (a ∷ []))) (length u))
+    where
+      by : Dec (overlap u (take j u ++ (a ∷ [])) ≡ length u) → moves (length u) (borders u) j a ≡ overlap u (take j u ++ (a ∷ []))
+      by (yes e) = moves-match u 0 0 (borders u) j a h e ∙ sym e
+      by (no g) = moves-on u 0 0 (borders u) j a h (omega (arith, overlap-step j a h .1))
+
+module _ (u : List ℕ) (p : ℕ) (inside : p < length u) where
+  fronts-borders : Fronts u p (λ z. prefix z u)
+  fronts-borders =
+      record {
+        inside = inside;
+        none = refl;
+        shorter = λ z w e. prefix-left z w u e;
+        few = λ z e. prefix-length z u e;
+        plain = λ z e. ap (drop p) (prefix-take z u e);
+      }
+
+  step-overlap : (z : List ℕ) (a : ℕ) → prefix z u ≡ true → overlap u (take (length z) u ++ (a ∷ [])) ≡ length (ending (λ y. prefix y u) (z ++ (a ∷ [])))
+  step-overlap z a e = ap (λ (y : List ℕ). overlap u (y ++ (a ∷ []))) (sym (prefix-take z u e)) ∙ overlap-ending u (z ++ (a ∷ []))
+
+  matches-borders : Matches u p (λ z. prefix z u) (borders u) length
+  matches-borders =
+      record {
+        start = refl;
+        codes = λ z e h. refl;
+        steps = λ z a e h. (step-overlap z a e, λ l. step-overlap z a e);
+        some = omega arith;
+        low = refl;
+        few = λ s h. omega arith;
+        one-more = λ s a h l. overlap-step u s a l;
+        step-below = λ s a h l m. omega arith;
+        fired-below = omega arith;
+        fired-empty = held-all u p 0 (length u) refl;
+      }
+
+  rewrites-once : (t : ℕ) → Rewrites u p t (λ z. prefix z u) (rewrite u (set u p t)) (λ w. w)
+  rewrites-once t =
+      record {
+        none = refl;
+        other = λ a w none. by a w none (prefix u (a ∷ w)) refl;
+        match = λ m v e l. ap (λ (x : List ℕ). rewrite u (set u p t) (x ++ v)) (prefix-whole m u e l) ∙ rewrite-front u (set u p t) v (omega arith)
+            ∙ ap (λ (x : List ℕ). set x p t ++ v) (sym (prefix-whole m u e l));
+      }
+    where
+      itself : prefix u u ≡ true
+      itself = subst (λ (x : List ℕ). prefix u x ≡ true) (append-nil u) (prefix-append u [])
+
+      by : (a : ℕ) (w : List ℕ) → ((m v : List ℕ) → prefix m u ≡ true → length m ≡ length u → a ∷ w ≡ m ++ v → ⊥) → (c : Bool) → prefix u (a ∷ w) ≡ c
+          → elim c [ true ↦ set u p t ++ drop (length u) (a ∷ w) | false ↦ a ∷ rewrite u (set u p t) w ] ≡ a ∷ rewrite u (set u p t) w
+      by a w none true e = absurd (none u (drop (length u) (a ∷ w)) itself refl (prefix-split u (a ∷ w) e))
+      by a w none false e = refl
 
 module _ (l k : ℕ) (r : Rule) (ok : ValidRule l k r) where
   u : List ℕ
@@ -88,212 +149,64 @@ module _ (l k : ℕ) (r : Rule) (ok : ValidRule l k r) where
   unfolding u v p
   differs e = ok .tag-new (ap (λ (w : List ℕ). getD w (r .place) 0) e ∙ getD-set-same (r .pattern) (r .place) (r .tag) 0 (ok .place-inside))
 
-  other : (j : ℕ) → j < n → eqb j n ≡ false
-  other j h = ne-eqb j n (λ e. omega arith)
-
-  itself : eqb n n ≡ true
-  itself = eq-eqb n n refl
-
-  held-in : (j : ℕ) → j < n → held r j ≡ drop p (take j u)
-  unfolding u p n
-  held-in j h = ap (λ (c : Bool). elim c [ true ↦ [] | false ↦ drop (r .place) (take j (r .pattern)) ]) (other j h)
-
-  held-end : held r n ≡ []
-  unfolding n
-  held-end = ap (λ (c : Bool). elim c [ true ↦ [] | false ↦ drop (r .place) (take (length (r .pattern)) (r .pattern)) ]) itself
-
-  goes-in : (j a : ℕ) → j < n → goes r j a ≡ overlap u (take j u ++ (a ∷ []))
-  unfolding u n
-  goes-in j a h = ap (λ (c : Bool). elim c [ true ↦ j | false ↦ overlap (r .pattern) (take j (r .pattern) ++ (a ∷ [])) ]) (other j h)
-
-  goes-end : (a : ℕ) → goes r n a ≡ n
-  unfolding n
-  goes-end a = ap (λ (c : Bool). elim c [ true ↦ length (r .pattern) | false ↦ overlap (r .pattern) (take (length (r .pattern)) (r .pattern) ++ (a ∷ [])) ]) itself
-
-  -- the cases of what is put out, by its two tests
-  said : ℕ → ℕ → Bool → Bool → List ℕ
-  said j a c d =
-      elim c [
-        | true ↦ a ∷ []
-        | false ↦ elim d [ true ↦ drop (r .place) (replaced r) | false ↦ take (suc (length (held r j)) - length (held r (goes r j a))) (held r j ++ (a ∷ [])) ]
-      ]
-
-  says-end : (a : ℕ) → says r n a ≡ a ∷ []
-  unfolding n said
-  says-end a = ap (λ (c : Bool). said n a c (eqb (goes r n a) n)) itself
-
-  says-match : (j a : ℕ) → j < n → goes r j a ≡ n → says r j a ≡ drop p v
-  unfolding v p n said
-  says-match j a h g = ap₂ (said j a) (other j h) (eq-eqb (goes r j a) n g)
-
-  says-other : (j a : ℕ) → j < n → (goes r j a ≡ n → ⊥)
-      → says r j a ≡ take (suc (length (held r j)) - length (held r (goes r j a))) (held r j ++ (a ∷ []))
-  unfolding n said
-  says-other j a h g = ap₂ (said j a) (other j h) (ne-eqb (goes r j a) n g)
-
   p-below : p < n
   unfolding p n
   p-below = ok .place-inside
 
-  goes-le : (j a : ℕ) → j < n → (goes r j a ≤ suc j) × (goes r j a ≤ n)
-  unfolding u n
-  goes-le j a h =
-      let o = overlap-le u (take j u ++ (a ∷ [])) in
-      omega (arith, goes-in j a h, o .0, o .1, length-append (take j u) (a ∷ []), length-take-le j u (omega arith))
+  held-at : (j : ℕ) → j < n → held (r .pattern) (r .place) j ≡ drop p (take j u)
+  unfolding u p n
+  held-at j h = held-in (r .pattern) (r .place) (r .tag) j h
 
-  -- a step completes u only from the longest proper prefix
-  full : (j a : ℕ) → j < n → goes r j a ≡ n → take j u ++ (a ∷ []) ≡ u
-  unfolding u n
-  full j a h e = overlap-full u (take j u ++ (a ∷ [])) (omega (arith, length-append (take j u) (a ∷ []), length-take-le j u (omega arith))) (sym (goes-in j a h) ∙ e)
+  held-end : held (r .pattern) (r .place) n ≡ []
+  unfolding n
+  held-end = held-all (r .pattern) (r .place) (r .tag) (length (r .pattern)) refl
 
-  full-length : (j a : ℕ) → j < n → goes r j a ≡ n → suc j ≡ n
-  unfolding u n
-  full-length j a h e = omega (arith, ap length (full j a h e), length-append (take j u) (a ∷ []), length-take-le j u (omega arith))
+  held-long : (j : ℕ) → j < n → length (held (r .pattern) (r .place) j) ≡ j - p
+  unfolding p n
+  held-long j h = held-length (r .pattern) (r .place) (r .tag) j h
 
   -- once the rule was applied the rest is put out as it is
   puts-end : (x : List ℕ) → puts (oneRule r) n x ≡ x
+  unfolding n
   puts-end [] = held-end
-  puts-end (a ∷ x) = ap₂ (λ (o w : List ℕ). o ++ w) (says-end a) (ap (λ (s : ℕ). puts (oneRule r) s x) (goes-end a) ∙ puts-end x)
-
-  -- what is put out at a step that does not complete u, after what was put out before
-  passed : (j a : ℕ) → j < n → (goes r j a ≡ n → ⊥)
-      → take p (take j u) ++ says r j a ≡ skipped u (take j u ++ (a ∷ [])) ++ take p (take (goes r j a) u)
-  unfolding u n
-  passed j a h g =
-      let w = take j u in
-      let t = w ++ (a ∷ []) in
-      let w' = take (goes r j a) u in
-      let low = goes-le j a h in
-      let is-t : take p w ++ (drop p w ++ (a ∷ [])) ≡ (skipped u t ++ take p w') ++ drop p w' =
-      sym (append-assoc (take p w) (drop p w) (a ∷ [])) ∙ ap (λ (l : List ℕ). l ++ (a ∷ [])) (take-append-drop p w)
-      ∙ overlap-split u t ∙ ap (λ (i : ℕ). skipped u t ++ take i u) (sym (goes-in j a h))
-      ∙ ap (λ (l : List ℕ). skipped u t ++ l) (sym (take-append-drop p w')) ∙ sym (append-assoc (skipped u t) (take p w') (drop p w')) in
-      let fits : length (drop p w') ≤ length (drop p w ++ (a ∷ [])) =
-      omega (
-        arith,
-        length-drop p w',
-        length-drop p w,
-        length-append (drop p w) (a ∷ []),
-        length-take-le j u (omega arith),
-        length-take-le (goes r j a) u (low .1),
-        low .0,
-      ) in
-      let lengths : suc (length (held r j)) - length (held r (goes r j a)) ≡ length (drop p w ++ (a ∷ [])) - length (drop p w') =
-      omega (arith, ap length (held-in j h), ap length (held-in (goes r j a) (omega (arith, low .1, g))), length-append (drop p w) (a ∷ [])) in
-      ap (λ (l : List ℕ). take p w ++ l) (says-other j a h g ∙ ap₂ (λ (i : ℕ) (l : List ℕ). take i (l ++ (a ∷ []))) lengths (held-in j h))
-      ∙ cut (take p w) (drop p w ++ (a ∷ [])) (skipped u t ++ take p w') (drop p w') is-t fits
+  puts-end (a ∷ x) =
+      let m = length (r .pattern) in
+      ap₂ (λ (o w : List ℕ). o ++ w) (said-after (r .pattern) (r .place) (r .tag) m a (borders (r .pattern) .step m a) refl)
+      (ap (λ (s : ℕ). puts (oneRule r) s x) (moves-after (r .pattern) (r .place) (r .tag) (borders (r .pattern)) m a refl) ∙ puts-end x)
 
   -- what was put out before and is still put out is what the rule makes of what was matched and is read
   puts-in : (x : List ℕ) (j : ℕ) → j < n → take p (take j u) ++ puts (oneRule r) j x ≡ rewrite u v (take j u ++ x)
-  unfolding u n
-  puts-in [] j h =
-      ap (λ (l : List ℕ). take p (take j u) ++ l) (held-in j h) ∙ take-append-drop p (take j u)
-      ∙ sym (rewrite-short u v (take j u) (omega (arith, length-take-le j u (omega arith)))) ∙ ap (rewrite u v) (sym (append-nil (take j u)))
-  puts-in (a ∷ x) j h = go (ℕ-discrete (goes r j a) n) (puts-in x) ∙ ap (rewrite u v) (append-assoc (take j u) (a ∷ []) x)
-    where
-      t : List ℕ
-      t = take j u ++ (a ∷ [])
-
-      t-length : length t ≡ suc j
-      t-length = omega (arith, length-append (take j u) (a ∷ []), length-take-le j u (omega arith))
-
-      go : Dec (goes r j a ≡ n) → ((i : ℕ) → i < n → take p (take i u) ++ puts (oneRule r) i x ≡ rewrite u v (take i u ++ x))
-          → take p (take j u) ++ (says r j a ++ puts (oneRule r) (goes r j a) x) ≡ rewrite u v (t ++ x)
-      go (yes e) rest =
-          ap₂ (λ (o w : List ℕ). take p (take j u) ++ (o ++ w)) (says-match j a h e) (ap (λ (s : ℕ). puts (oneRule r) s x) e ∙ puts-end x)
-          ∙ sym (append-assoc (take p (take j u)) (drop p v) x)
-          ∙ ap (λ (o : List ℕ). (o ++ drop p v) ++ x) (take-take p j u (omega (arith, p-below, full-length j a h e)) ∙ sym v-front)
-          ∙ ap (λ (o : List ℕ). o ++ x) (take-append-drop p v)
-          ∙ sym (rewrite-front u v x (omega (arith, p-below)))
-          ∙ ap (λ (o : List ℕ). rewrite u v (o ++ x)) (sym (full j a h e))
-      go (no g) rest =
-          sym (append-assoc (take p (take j u)) (says r j a) (puts (oneRule r) (goes r j a) x))
-          ∙ ap (λ (o : List ℕ). o ++ puts (oneRule r) (goes r j a) x) (passed j a h g)
-          ∙ append-assoc (skipped u t) (take p (take (goes r j a) u)) (puts (oneRule r) (goes r j a) x)
-          ∙ ap (λ (o : List ℕ). skipped u t ++ o) (rest (goes r j a) (omega (arith, goes-le j a h .1, g)))
-          ∙ ap (λ (i : ℕ). skipped u t ++ rewrite u v (take i u ++ x)) (goes-in j a h)
-          ∙ sym (rewrite-overlap u v t x (omega (arith, t-length)))
+  unfolding u v p n
+  puts-in x j h =
+      let w = take j (r .pattern) in
+      let long : length w ≡ j = length-take-le j (r .pattern) (omega arith) in
+      let begins : prefix w (r .pattern) ≡ true =
+      ap (prefix w) (sym (take-append-drop j (r .pattern))) ∙ prefix-append w (drop j (r .pattern))
+      in
+      ap (λ (s : ℕ). take (r .place) w ++ puts (oneRule r) s x) (sym long)
+      ∙ does-before (r .pattern) (r .place) (r .tag) (λ z. prefix z (r .pattern)) (fronts-borders (r .pattern) (r .place) (ok .place-inside))
+      (rewrite (r .pattern) (replaced r)) (λ y. y) (rewrites-once (r .pattern) (r .place) (ok .place-inside) (r .tag)) (borders (r .pattern)) length
+      (matches-borders (r .pattern) (r .place) (ok .place-inside)) (λ y rest. puts-end y) x w begins (omega arith)
 
   -- 002, proposition 3
   pub does-rule : Same k (puts (oneRule r) 0) (apply r)
   unfolding u v p n
   does-rule x hx = ap (λ (o : List ℕ). o ++ puts (oneRule r) 0 x) (sym (take-all (r .place) [] (omega arith))) ∙ puts-in x 0 (omega (arith, p-below))
 
-  v-below : Below k v
-  unfolding v
-  v-below = below-set k (r .pattern) (r .place) (r .tag) (ok .tag-below) (ok .pattern-below)
-
-  held-length : (j : ℕ) → j < n → length (held r j) ≡ j - p
-  unfolding u n
-  held-length j h = omega (arith, ap length (held-in j h), length-drop p (take j u), length-take-le j u (omega arith))
-
-  held-below : (j : ℕ) → (j < n) ⊎ (j ≡ n) → Below k (held r j)
-  unfolding u
-  held-below j (inl h) = rw (held-in j h) (below-drop k p (take j u) (below-take k j u (ok .pattern-below)))
-  held-below j (inr e) = rw (e, held-end) tt
-
-  goes-below : (j a : ℕ) → (j < n) ⊎ (j ≡ n) → goes r j a < suc n
-  goes-below j a (inl h) = omega (arith, goes-le j a h .1)
-  goes-below j a (inr e) = rw e (omega (arith, goes-end a))
-
-  says-below : (j a : ℕ) → a < k → (j < n) ⊎ (j ≡ n) → Dec (goes r j a ≡ n) → Below k (says r j a)
-  says-below j a ha (inl h) (yes e) = rw (says-match j a h e) (below-drop k p v v-below)
-  says-below j a ha (inl h) (no e) =
-      let all = below-append k (held r j) (a ∷ []) (held-below j (inl h)) (ha, tt) in
-      rw (says-other j a h e) (below-take k (suc (length (held r j)) - length (held r (goes r j a))) (held r j ++ (a ∷ [])) all)
-  says-below j a ha (inr e) d = rw (e, says-end a) (ha, tt)
-
-  says-length : (j a : ℕ) → (j < n) ⊎ (j ≡ n) → Dec (goes r j a ≡ n) → length (says r j a) + length (held r (goes r j a)) ≡ length (held r j) + 1
-  unfolding u n
-  says-length j a (inl h) (yes e) =
-      omega (
-        arith,
-        full-length j a h e,
-        p-below,
-        v-length,
-        ap length (says-match j a h e),
-        length-drop p v,
-        ap (λ (i : ℕ). length (held r i)) e,
-        ap length held-end,
-        held-length j h,
-      )
-  says-length j a (inl h) (no e) =
-      let low = goes-le j a h in
-      let m = suc (length (held r j)) - length (held r (goes r j a)) in
-      omega (
-        arith,
-        low .0,
-        low .1,
-        e,
-        ap length (says-other j a h e),
-        length-take m (held r j ++ (a ∷ [])),
-        length-append (held r j) (a ∷ []),
-        held-length j h,
-        held-length (goes r j a) (omega (arith, low .1, e)),
-      )
-  says-length j a (inr e) d =
-      rw e (omega (arith, ap length (says-end a), ap (λ (i : ℕ). length (held r i)) (goes-end a), ap length held-end))
-
   pub sound-rule : Sound k (oneRule r)
-  unfolding n p
   sound-rule =
-      record {
-        some = omega arith;
-        empty = held-in 0 (omega (arith, p-below)) ∙ drop-of-length-le [] {i = r .place} (omega arith);
-        next-below = λ j a hj ha. goes-below j a (below-suc j n hj);
-        output-below = λ j a hj ha. says-below j a ha (below-suc j n hj) (ℕ-discrete (goes r j a) n);
-        final-below = λ j hj. held-below j (below-suc j n hj);
-        balanced = λ j a hj ha. says-length j a (below-suc j n hj) (ℕ-discrete (goes r j a) n);
-      }
+      sound-matching k (r .pattern) (r .place) (r .tag) (λ z. prefix z (r .pattern)) (fronts-borders (r .pattern) (r .place) (ok .place-inside)) (borders (r .pattern)) length
+      (matches-borders (r .pattern) (r .place) (ok .place-inside)) (ok .pattern-below) (ok .tag-below)
 
   -- at most one tag less than the pattern has is held
   pub held-rule : Held (l - 1) (oneRule r)
-  unfolding n
-  held-rule j hj = by (below-suc j n hj)
-    where
-      by : (j < n) ⊎ (j ≡ n) → length (held r j) ≤ l - 1
-      by (inl h) = omega (arith, held-length j h, ok .short)
-      by (inr e) = rw (e, held-end) (omega arith)
+  held-rule j hj =
+      omega (
+        arith,
+        held-matching k (r .pattern) (r .place) (r .tag) (λ z. prefix z (r .pattern)) (fronts-borders (r .pattern) (r .place) (ok .place-inside)) (borders (r .pattern)) length
+            (matches-borders (r .pattern) (r .place) (ok .place-inside)) (ok .pattern-below) (ok .tag-below) j hj,
+        ok .short,
+      )
 
   -- a prefix of u leads to its own state
   walk-prefix : (j : ℕ) → j ≤ n → walk (oneRule r) 0 (take j u) ≡ j
@@ -305,8 +218,8 @@ module _ (l k : ℕ) (r : Rule) (ok : ValidRule l k r) where
       ∙ prefix-append (take (suc j) u) (drop (suc j) u) in
       ap (walk (oneRule r) 0) more
       ∙ walk-append (oneRule r) 0 (take j u) (getD u j 0 ∷ [])
-      ∙ ap (λ (s : ℕ). goes r s (getD u j 0)) (walk-prefix j (omega arith))
-      ∙ goes-in j (getD u j 0) h
+      ∙ ap (λ (s : ℕ). moves (length (r .pattern)) (borders (r .pattern)) s (getD u j 0)) (walk-prefix j (omega arith))
+      ∙ borders-move (r .pattern) j (getD (r .pattern) j 0) h
       ∙ ap (overlap u) (sym more)
       ∙ overlap-prefix u (take (suc j) u) is-prefix
       ∙ length-take-le (suc j) u h
@@ -338,12 +251,12 @@ module _ (l k : ℕ) (r : Rule) (ok : ValidRule l k r) where
   early-rule j hj c all = go (below-suc j n hj) (decLt p j)
     where
       go : (j < n) ⊎ (j ≡ n) → Dec (p < j) → ⊥
-      go (inr e) d = let z : suc c ≡ 0 = sym (all [] tt) ∙ ap (λ (i : ℕ). first (held r i)) e ∙ ap first held-end in omega arith
+      go (inr e) d = let z : suc c ≡ 0 = sym (all [] tt) ∙ ap (λ (i : ℕ). first (held (r .pattern) (r .place) i)) e ∙ ap first held-end in omega arith
       go (inl h) (no d) = let z : suc c ≡ 0 = sym (all [] tt)
-          ∙ ap first (held-in j h ∙ drop-of-length-le (take j u) {i = p} (omega (arith, length-take-le j u (omega arith)))) in omega arith
+          ∙ ap first (held-at j h ∙ drop-of-length-le (take j u) {i = p} (omega (arith, length-take-le j u (omega arith)))) in omega arith
       go (inl h) (yes d) =
           let inside : p < length (take j u) = omega (arith, length-take-le j u (omega arith)) in
-          let old : suc c ≡ suc (getD u p 0) = sym (all [] tt) ∙ ap first (held-in j h ∙ drop-cons (take j u) p 0 inside)
+          let old : suc c ≡ suc (getD u p 0) = sym (all [] tt) ∙ ap first (held-at j h ∙ drop-cons (take j u) p 0 inside)
           ∙ ap suc (getD-take j u p 0 d) in
           let back : take p v ++ puts (oneRule r) j (drop j u) ≡ take p v ++ drop p v =
           ap (λ (o : List ℕ). o ++ puts (oneRule r) j (drop j u)) (v-front ∙ sym (take-take p j u (omega arith)))
@@ -357,7 +270,7 @@ module _ (l k : ℕ) (r : Rule) (ok : ValidRule l k r) where
   -- 002, proposition 5: two states are told apart by nothing more, by the rest of u after the one, or by that after the other
   told : (i j : ℕ) → i < j → (j < n) ⊎ (j ≡ n) → Dec (p < i) → Dec (p < j) → Same k (puts (oneRule r) i) (puts (oneRule r) j) → ⊥
   unfolding u n
-  told i j lt (inl h) d (yes b) same = omega (arith, ap length (same [] tt), held-length i (omega arith), held-length j h)
+  told i j lt (inl h) d (yes b) same = omega (arith, ap length (same [] tt), held-long i (omega arith), held-long j h)
   told i j lt (inl h) d (no b) same =
       let x = drop j u in
       let short : length (take i u ++ x) < length u = omega (arith, length-append (take i u) x, length-take-le i u (omega arith), length-drop j u) in
@@ -365,7 +278,7 @@ module _ (l k : ℕ) (r : Rule) (ok : ValidRule l k r) where
       append-cancel-left (take i u) (puts (oneRule r) i x) x
       (ap (λ (o : List ℕ). o ++ puts (oneRule r) i x) (sym (said-all i (omega arith) (λ g. omega arith))) ∙ puts-in x i (omega arith) ∙ rewrite-short u v (take i u ++ x) short) in
       changed j h b (sym keeps ∙ same x (rest-below j))
-  told i j lt (inr e) (yes d) b same = omega (arith, ap length (same [] tt), held-length i (omega arith), ap (λ (s : ℕ). length (held r s)) e, ap length held-end)
+  told i j lt (inr e) (yes d) b same = omega (arith, ap length (same [] tt), held-long i (omega arith), ap (λ (s : ℕ). length (held (r .pattern) (r .place) s)) e, ap length held-end)
   told i j lt (inr e) (no d) b same =
       let x = drop i u in
       let keeps : puts (oneRule r) j x ≡ x = ap (λ (s : ℕ). puts (oneRule r) s x) e ∙ puts-end x in
@@ -375,7 +288,7 @@ module _ (l k : ℕ) (r : Rule) (ok : ValidRule l k r) where
   unfolding u n
   minimal-rule =
       record {
-        next-below = λ j a hj ha. goes-below j a (below-suc j n hj);
+        next-below = sound-rule .next-below;
         reached = λ j hj. record { word = take j u; below = below-take k j u (ok .pattern-below); leads = walk-prefix j (omega arith) };
         early = early-rule;
         apart = λ i j hi hj same. apart i j hi hj same (decLt i j) (decLt j i);

@@ -1,3 +1,4 @@
 -- The smallest table of a cascade.
+pub mod Matcher
 pub mod OneRule
 pub mod TableOf

@@ -1,7 +1,7 @@
 -- The words of the rule's transducer as parts of the pattern.
 use Prim.Native.Nat.{ℕ, suc, _+_, _-_, _≤_, _<_, min}
 use native.Mathlib.Omega.{arith}
-use native.Mathlib.Decide.{decLt}
+use native.Mathlib.Decide.{ℕ-discrete, decLt}
 use native.Mathlib.Numerals.{add-one}
 use mathlib.Core.Path.{_≡_, refl, sym, ap, ap₂, _∙_}
 use mathlib.Core.Bool.{Bool, true, false}
@@ -13,12 +13,15 @@ use lib.Seq.{drop-cons, getD-set-same, drop-set-lt, take-length, take-all, take-
 use Rattle.words.specs.Overlap.{overlap}
 use Rattle.words.proofs.Overlap.{overlap-le}
 use Rattle.transducers.specs.Canonical.{Inside}
-use Rattle.minimal.specs.OneRule.{held, goes, says, oneRule}
+use Rattle.minimal.specs.Matcher.{held, said, moves}
+use Rattle.minimal.specs.OneRule.{borders, oneRule}
+use Rattle.minimal.proofs.Matcher.{held-in, held-all, said-after, said-match, said-on, moves-after}
+use Rattle.minimal.proofs.OneRule.{borders-move}
 use Rattle.workspace.specs.declared.Grid.{Grid}
 use Rattle.workspace.specs.Cells.{part}
 use Rattle.workspace.specs.Holds.{Roomy}
 use Rattle.workspace.proofs.Appending.{part-length}
-use Rattle.onerule.specs.Rule.{rule}
+use Rattle.onerule.specs.Rule.{rule, goes, says, holds}
 use Rattle.onerule.proofs.Borders.{matched, matched-length}
 
 part-lesser : (u : List ℕ) (p j : ℕ) → j ≤ length u → part (min p j) j u ≡ part p j u
@@ -38,62 +41,59 @@ part-part u p n j h hj =
     ∙ ap (drop p) (take-take (p + n) j u h)
 
 module _ (u : List ℕ) (p b : ℕ) where
+  overlap-below : (j a : ℕ) → j < length u → (overlap u (matched u j a) ≤ j + 1) × (overlap u (matched u j a) ≤ length u)
+  overlap-below j a h = let o = overlap-le u (matched u j a) in (omega (arith, o .0, matched-length u j a h), o .1)
+
+  goes-is : (j a : ℕ) → j < length u → goes (rule u p b) j a ≡ overlap u (matched u j a)
+  goes-is j a h = borders-move u j a h
+
   pub goes-le : (j a : ℕ) → j < length u → goes (rule u p b) j a ≤ j + 1
-  goes-le j a h = by (eqb j (length u)) refl
-    where
-      by : (c : Bool) → eqb j (length u) ≡ c → elim c [ true ↦ j | false ↦ overlap u (matched u j a) ] ≤ j + 1
-      by true e = omega arith
-      by false e = omega (arith, overlap-le u (matched u j a) .0, matched-length u j a h)
-
-  pub goes-below : (j a : ℕ) → j ≤ length u → goes (rule u p b) j a ≤ length u
-  goes-below j a h = by (eqb j (length u))
-    where
-      by : (c : Bool) → elim c [ true ↦ j | false ↦ overlap u (matched u j a) ] ≤ length u
-      by true = h
-      by false = overlap-le u (matched u j a) .1
-
-  held-part : (j : ℕ) → j < length u → held (rule u p b) j ≡ part p j u
-  held-part j h = cc (ne-eqb j (length u) (λ e. omega arith))
-
-  pub held-lesser : (j : ℕ) → j < length u → part (min p j) j u ≡ held (rule u p b) j
-  held-lesser j h = part-lesser u p j (omega arith) ∙ sym (held-part j h)
-
-  pub held-none : (j : ℕ) → j ≡ length u → [] ≡ held (rule u p b) j
-  held-none j e = cc (eq-eqb j (length u) e)
-
-  pub goes-end : (j a : ℕ) → j ≡ length u → j ≡ goes (rule u p b) j a
-  goes-end j a e = cc (eq-eqb j (length u) e)
+  goes-le j a h = omega (arith, goes-is j a h, overlap-below j a h .0)
 
   pub goes-overlap : (j a n : ℕ) → j < length u → n ≡ overlap u (matched u j a) → n ≡ goes (rule u p b) j a
-  goes-overlap j a n h e = cc (ne-eqb j (length u) (λ e. omega arith))
+  goes-overlap j a n h e = e ∙ sym (goes-is j a h)
+
+  pub goes-end : (j a : ℕ) → j ≡ length u → j ≡ goes (rule u p b) j a
+  goes-end j a e = sym (moves-after u p b (borders u) j a e)
+
+  pub goes-below : (j a : ℕ) → j ≤ length u → goes (rule u p b) j a ≤ length u
+  goes-below j a h = by (ℕ-discrete j (length u))
+    where
+      by : Dec (j ≡ length u) → goes (rule u p b) j a ≤ length u
+      by (yes e) = omega (arith, goes-end j a e)
+      by (no g) = let l : j < length u = omega arith in omega (arith, goes-is j a l, overlap-below j a l .1)
+
+  held-part : (j : ℕ) → j < length u → holds (rule u p b) j ≡ part p j u
+  held-part j h = held-in u p b j h
+
+  pub held-lesser : (j : ℕ) → j < length u → part (min p j) j u ≡ holds (rule u p b) j
+  held-lesser j h = part-lesser u p j (omega arith) ∙ sym (held-part j h)
+
+  pub held-none : (j : ℕ) → j ≡ length u → [] ≡ holds (rule u p b) j
+  held-none j e = sym (held-all u p b j e)
 
   pub says-end : (j a : ℕ) → j ≡ length u → a ∷ [] ≡ says (rule u p b) j a
-  says-end j a e = cc (eq-eqb j (length u) e)
+  says-end j a e = sym (said-after u p b j a (overlap u (matched u j a)) e)
 
   module _ (j a next : ℕ) (h : j < length u) (to : next ≡ goes (rule u p b) j a) where
-    matches : eqb j (length u) ≡ false
-    matches = ne-eqb j (length u) (λ e. omega arith)
+    next-is : next ≡ overlap u (matched u j a)
+    next-is = to ∙ goes-is j a h
 
     pub says-match : p < length u → next ≡ length u → b ∷ part (p + 1) (length u) u ≡ says (rule u p b) j a
-    says-match hp e =
+    says-match inside e =
         ap {B = List ℕ} (λ (l : List ℕ). b ∷ drop (p + 1) l) (take-length u)
         ∙ sym (drop-cons (set u p b) p 0 (omega (arith, length-set u p b))
-        ∙ ap₂ {C = List ℕ} (λ (x : ℕ) (l : List ℕ). x ∷ l) (getD-set-same u p b 0 hp) (drop-set-lt (suc p) u p b (omega arith) ∙ ap (λ (i : ℕ). drop i u) (sym (add-one p))))
-        ∙ by (goes (rule u p b) j a) (sym to ∙ e) refl
-      where
-        by : (n : ℕ) → n ≡ length u → goes (rule u p b) j a ≡ n → drop p (set u p b) ≡ says (rule u p b) j a
-        by n full is = cc (matches, eq-eqb (goes (rule u p b) j a) (length u) (is ∙ full))
+        ∙ ap₂ {C = List ℕ} (λ (x : ℕ) (l : List ℕ). x ∷ l) (getD-set-same u p b 0 inside) (drop-set-lt (suc p) u p b (omega arith) ∙ ap (λ (i : ℕ). drop i u) (sym (add-one p))))
+        ∙ sym (said-match u p b j a (overlap u (matched u j a)) h (sym next-is ∙ e))
 
     -- on a mismatch: what was held and the tag, without what is held next
     says-back : (next ≡ length u → ⊥)
         → says (rule u p b) j a ≡ take (suc (length (part p j u)) - length (part p next u)) (part p j u ++ (a ∷ []))
     says-back e =
-        let short : next < length u = omega (arith, e, goes-below j a (omega arith)) in
-        one ∙ ap₂ (λ (x y : List ℕ). take (suc (length x) - length y) (x ++ (a ∷ []))) (held-part j h) (ap (held (rule u p b)) (sym to) ∙ held-part next short)
-      where
-        one : says (rule u p b) j a
-            ≡ take (suc (length (held (rule u p b) j)) - length (held (rule u p b) (goes (rule u p b) j a))) (held (rule u p b) j ++ (a ∷ []))
-        one = cc (matches, ne-eqb (goes (rule u p b) j a) (length u) (λ d. e (to ∙ d)))
+        let short : next < length u = omega (arith, e, next-is, overlap-below j a h .1) in
+        let i = overlap u (matched u j a) in
+        said-on u p b j a i h (omega (arith, next-is))
+        ∙ ap₂ (λ (x y : List ℕ). take (suc (length x) - length y) (x ++ (a ∷ []))) (held-part j h) (ap (λ (q : ℕ). holds (rule u p b) q) (sym next-is) ∙ held-part next short)
 
     pub says-short : (next ≡ length u → ⊥) → p < next → part p (p + (j + 1 - next)) u ≡ says (rule u p b) j a
     says-short e lt =
@@ -112,25 +112,25 @@ module _ (u : List ℕ) (p b : ℕ) where
 
   -- the words are within their cells
   pub roomy-rule : (g : Grid) → p < length u → length u + 7 ≤ g .depth → Roomy g (oneRule (rule u p b))
-  roomy-rule g hp deep =
+  roomy-rule g inside deep =
       record {
-        outputs = λ j a hj ha. by j a (omega arith) (eqb j (length u)) (eqb (goes (rule u p b) j a) (length u));
-        finals = λ j hj. fin j (omega arith) (eqb j (length u)) refl;
+        outputs = λ j a hj ha. by j a (omega arith) (eqb j (length u)) (eqb (overlap u (matched u j a)) (length u));
+        finals = λ j hj. omega (arith, held-le j (omega arith));
       }
     where
-      held-le : (j : ℕ) → length (held (rule u p b) j) ≤ j
-      held-le j = at (eqb j (length u))
+      held-le : (j : ℕ) → j ≤ length u → length (held u p j) + 1 ≤ length u
+      held-le j h = at (eqb j (length u)) refl
         where
-          at : (c : Bool) → length {A = ℕ} (elim c [ true ↦ [] | false ↦ drop p (take j u) ]) ≤ j
-          at true = omega arith
-          at false = omega (arith, length-drop p (take j u), length-take j u)
+          at : (c : Bool) → eqb j (length u) ≡ c → length {A = ℕ} (elim c [ true ↦ [] | false ↦ drop p (take j u) ]) + 1 ≤ length u
+          at true e = omega (arith, inside)
+          at false e = omega (arith, inside, length-drop p (take j u), length-take j u, eqb-false j (length u) e)
 
       by : (j a : ℕ) → j ≤ length u → (c d : Bool)
           → length {A = ℕ} (elim c [
             | true ↦ a ∷ []
             | false ↦ elim d [
               | true ↦ drop p (set u p b)
-              | false ↦ take (suc (length (held (rule u p b) j)) - length (held (rule u p b) (goes (rule u p b) j a))) (held (rule u p b) j ++ (a ∷ []))
+              | false ↦ take (suc (length (held u p j)) - length (held u p (overlap u (matched u j a)))) (held u p j ++ (a ∷ []))
             ]
           ]) + 2
           ≤ g .depth
@@ -139,15 +139,10 @@ module _ (u : List ℕ) (p b : ℕ) where
       by j a h false false =
           omega (
             arith,
-            length-take (suc (length (held (rule u p b) j)) - length (held (rule u p b) (goes (rule u p b) j a))) (held (rule u p b) j ++ (a ∷ [])),
-            length-append (held (rule u p b) j) (a ∷ []),
-            held-le j,
+            length-take (suc (length (held u p j)) - length (held u p (overlap u (matched u j a)))) (held u p j ++ (a ∷ [])),
+            length-append (held u p j) (a ∷ []),
+            held-le j h,
           )
-
-      fin : (j : ℕ) → j ≤ length u → (c : Bool) → eqb j (length u) ≡ c
-          → length {A = ℕ} (elim c [ true ↦ [] | false ↦ drop p (take j u) ]) + 8 ≤ g .depth
-      fin j h true e = omega arith
-      fin j h false e = omega (arith, eqb-false j (length u) e, length-drop p (take j u), length-take j u)
 
   pub inside-rule : (k : ℕ) → Inside k (oneRule (rule u p b))
   inside-rule k j a hj ha = omega (arith, goes-below j a (omega arith))

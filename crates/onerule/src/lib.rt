@@ -16,11 +16,11 @@ ghost use mathlib.Core.List.{[], _∷_, _++_};
 ghost use lib.ListN.{length, drop, take};
 ghost use Rattle.words.specs.Word.{prefix};
 ghost use Rattle.words.specs.Overlap.{overlap};
-ghost use Rattle.minimal.specs.OneRule.{oneRule, ruleTable, goes, says, held};
+ghost use Rattle.minimal.specs.OneRule.{oneRule};
 ghost use Rattle.workspace.specs.Entries.{OUTPUT, FINAL};
-ghost use Rattle.workspace.specs.Cells.{at, word, Sized, Kept, In-rows, Written, part};
-ghost use Rattle.workspace.specs.Holds.{Stepped, Stepping, Rowed, Holds};
-ghost use Rattle.onerule.specs.Rule.{rule, Room};
+ghost use Rattle.workspace.specs.Cells.{at, word, Sized, Written, part};
+ghost use Rattle.workspace.specs.Holds.{Stepped, Stepping, Rowed};
+ghost use Rattle.onerule.specs.Rule.{rule, goes, says, holds, Room, Ruled};
 
 // Whether the tags of the pattern u from s to j, and a after them, are the first ones of u.
 fn overlaps(u: &[u8], j: usize, a: usize, s: usize) -> bool
@@ -155,7 +155,7 @@ fn write_steps(work: &mut [u16], g: Grid, r: usize, u: &[u8], place: usize, tag:
 fn write_final(work: &mut [u16], g: Grid, r: usize, u: &[u8], place: usize, tag: u8, j: usize)
     requires { ⌜ Room g (now work) (rule (now u) place tag) ⌝ }
     requires { ⌜ (r < g .rows) × (j ≤ length (now u)) ⌝ }
-    ensures { λ _. ⌜ Written g (now (work .entry)) (now (work .exit)) r (g .tags) FINAL (held (rule (now (u .entry)) place tag) j) ⌝ }
+    ensures { λ _. ⌜ Written g (now (work .entry)) (now (work .exit)) r (g .tags) FINAL (holds (rule (now (u .entry)) place tag) j) ⌝ }
 {
     clear(work, g, r, g.tags, FINAL);
     if j == u.len() {
@@ -173,16 +173,16 @@ fn write_state(work: &mut [u16], g: Grid, r: usize, u: &[u8], place: usize, tag:
     write_final(work, g, r, u, place, tag, j);
 }
 
-// The rule's transducer to the rows from `base`.
-pub fn write_rule(work: &mut [u16], g: Grid, base: usize, u: &[u8], place: usize, tag: u8)
+// The rule's transducer to the rows from `base`: the number of its states.
+pub fn write_rule(work: &mut [u16], g: Grid, base: usize, u: &[u8], place: usize, tag: u8) -> usize
     requires { ⌜ Room g (now work) (rule (now u) place tag) ⌝ }
     requires { ⌜ base + (length (now u) + 1) ≤ g .rows ⌝ }
-    ensures holds { λ _. ⌜ Holds g (now (work .exit)) base (ruleTable (g .tags) (rule (now (u .entry)) place tag)) ⌝ }
-    ensures kept { λ _. ⌜ Kept g (now (work .entry)) (now (work .exit)) (In-rows base (base + (length (now (u .entry)) + 1))) ⌝ }
+    ensures { λ count. ⌜ Ruled g (now (work .entry)) (now (work .exit)) base count (rule (now (u .entry)) place tag) ⌝ }
 {
     let mut j = 0;
     while j <= u.len() {
         write_state(work, g, base + j, u, place, tag, j);
         j += 1;
     }
+    j
 }

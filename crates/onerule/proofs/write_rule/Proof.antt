@@ -2,7 +2,10 @@ use Rattle.onerule.proofs.Words.{roomy-rule, inside-rule}
 use Rattle.onerule.specs.Rule.{rule}
 use Rattle.workspace.proofs.Holds.{filling-start, filling-next, holds-table}
 use Rattle.workspace.specs.Holds.{Filling}
-use Rattle.minimal.specs.OneRule.{oneRule}
+use Rattle.minimal.specs.OneRule.{oneRule, ruleTable}
+use Rattle.minimal.proofs.TableOf.{doing-rule}
+use Rattle.transducers.proofs.Tabulate.{length-table}
+use mathlib.Core.Path.{_≡_, _∙_}
 use lib.ListN.{length}
 use native.Mathlib.Omega.{arith}
 use Prim.Native.Nat.{_+_, _-_, _≤_}
@@ -47,12 +50,17 @@ same-length : tie.Need-same-length Inv-loop μ-loop
 same-length c = c .before .loop .inv .1 .kept .long
 
 returns : tie.Need-returns Inv-loop μ-loop
-returns c = let st = c .before .before .before .before in let a = st .args in (
-  holds-table (a .g) (c .before .loop .work) (a .base) (oneRule (rule (a .u .now) (a .place) (a .tag))) (omega arith)
-      (inside-rule (a .u .now) (a .place) (a .tag) (a .g .tags)) (roomy-rule (a .u .now) (a .place) (a .tag) (a .g) (st .pre .0 .place-inside) (st .pre .0 .deep))
-      (λ q h. c .before .loop .inv .1 .states q (omega arith)),
-  c .before .loop .inv .1 .kept,
-)
+returns c = let st = c .before .before .before .before in let a = st .args in let r = rule (a .u .now) (a .place) (a .tag) in let l = c .before .loop in let last : l .j ≡ length (a .u .now) + 1 = omega arith in
+    record {
+      table = ruleTable (a .g .tags) r;
+      long = length-table (a .g .tags) (oneRule r) ∙ (omega arith);
+      few = omega arith;
+      holds =
+          holds-table (a .g) (l .work) (a .base) (oneRule r) (omega arith) (inside-rule (a .u .now) (a .place) (a .tag) (a .g .tags))
+          (roomy-rule (a .u .now) (a .place) (a .tag) (a .g) (st .pre .0 .place-inside) (st .pre .0 .deep)) (λ q h. l .inv .1 .states q (omega arith));
+      doing = λ m v. doing-rule m (a .g .tags) r v;
+      kept = rw last (l .inv .1 .kept);
+    }
 
 pub write-rule-spec : {M : Type 1} → statement M
 write-rule-spec =
