@@ -22,8 +22,8 @@ use Rattle.transducers.proofs.Number.{doing-number, canonical-number}
 use Rattle.minimal.specs.OneRule.{ruleTable}
 use Rattle.minimal.proofs.TableOf.{Good, good-add, good-only, doing-rule}
 use Rattle.workspace.specs.declared.Grid.{Grid}
-use Rattle.workspace.specs.Entries.{CLASS, LINK}
-use Rattle.workspace.specs.Cells.{Sized, Kept, In-rows, Spare}
+use Rattle.workspace.specs.Entries.{CLASS, LINK, FINAL}
+use Rattle.workspace.specs.Cells.{Sized, Kept, In-rows, Spare, Fits}
 use Rattle.workspace.specs.Holds.{Holds, Ready, tableAt}
 use Rattle.workspace.proofs.Regions.{kept-then, kept-wider, sized-kept}
 use Rattle.workspace.proofs.Holds.{holds-kept, length-at, table-at, holds-at}
@@ -34,11 +34,11 @@ use Rattle.normalize.specs.Strip.{Normalized}
 use Rattle.merge.specs.Classes.{Merged}
 use Rattle.number.specs.Order.{Classed}
 use Rattle.number.specs.Numbering.{Rows-notes, Numbered}
-use Rattle.addition.specs.Addition.{Addable, more, Added}
+use Rattle.addition.specs.Addition.{rule-rows, Addable, more, Added}
 
 -- rows that hold a table that does something are ready for a phase
 ready-doing : (g : Grid) (W : List ℕ) (base n d : ℕ) (f : List ℕ → List ℕ) (t : Table) → Sized g W → base + n ≤ g .rows → Holds g W base t
-    → n < 0x10000 → length t ≡ n → Doing (g .tags) d f t → d + 8 ≤ g .depth → Ready g W base n
+    → n < 0x10000 → length t ≡ n → Doing (g .tags) d f t → Fits g FINAL d → Ready g W base n
 ready-doing g W base n d f t sized room holds small long doing deep =
     let e : tableAt g W base n ≡ t = table-at g W base n t holds long in
     record {
@@ -70,31 +70,31 @@ module _ (g : Grid) (W : List ℕ) (n ceiling : ℕ) (r : Rule) (ok : Addable g 
         deep = omega (arith, ok .valid .short, ok .deep);
       }
 
-  pub rule-fits : 8 * ceiling + (length (r .pattern) + 1) ≤ g .rows
+  pub rule-fits : rule-rows ceiling + (length (r .pattern) + 1) ≤ g .rows
   rule-fits = omega (arith, ok .valid .short, ok .rows, ok .some)
 
-  -- the rule's table has been written to the rows from 8 × ceiling
-  module _ (X : List ℕ) (m : ℕ) (ruled : Ruled g W X (8 * ceiling) m r) where
+  -- the rule's table has been written to its rows
+  module _ (X : List ℕ) (m : ℕ) (ruled : Ruled g W X (rule-rows ceiling) m r) where
     u-doing : Doing k five (apply r) (ruled .table)
     u-doing = ruled .doing longest-pattern (ok .valid)
 
-    product-fits : ceiling + n * m ≤ 8 * ceiling
+    product-fits : ceiling + n * m ≤ rule-rows ceiling
     product-fits =
         let short : m ≤ 7 = omega (arith, ok .valid .short, ruled .few) in
         omega (arith, mul-le-mul-left n short, ok .few)
 
     first-holds : Holds g X 0 (tableAt g W 0 n)
     first-holds =
-        holds-kept g (In-rows (8 * ceiling) (8 * ceiling + m)) W X (ruled .kept) 0 (tableAt g W 0 n) (ok .holds)
+        holds-kept g (In-rows (rule-rows ceiling) (rule-rows ceiling + m)) W X (ruled .kept) 0 (tableAt g W 0 n) (ok .holds)
         (λ q a e hq ha p. omega (arith, p .0, length-at g W 0 n, ok .few, ok .some)) (λ q e hq he p. omega (arith, p .0, length-at g W 0 n, ok .few, ok .some))
 
     pub first-same : tableAt g X 0 n ≡ tableAt g W 0 n
     first-same = table-at g X 0 n (tableAt g W 0 n) first-holds (length-at g W 0 n)
 
-    pub second-same : tableAt g X (8 * ceiling) m ≡ ruled .table
-    second-same = table-at g X (8 * ceiling) m (ruled .table) (ruled .holds) (ruled .long)
+    pub second-same : tableAt g X (rule-rows ceiling) m ≡ ruled .table
+    second-same = table-at g X (rule-rows ceiling) m (ruled .table) (ruled .holds) (ruled .long)
 
-    pub composable : Composable g X 0 n (8 * ceiling) m ceiling
+    pub composable : Composable g X 0 n (rule-rows ceiling) m ceiling
     composable =
         record {
           sized = sized-kept g W X (ok .sized) (ruled .kept .long);
@@ -113,7 +113,7 @@ module _ (g : Grid) (W : List ℕ) (n ceiling : ℕ) (r : Rule) (ok : Addable g 
         }
 
     -- the composition stands in the rows from the ceiling
-    module _ (Y : List ℕ) (count : ℕ) (composed : Composed g Y ceiling count (tableAt g X 0 n) (tableAt g X (8 * ceiling) m))
+    module _ (Y : List ℕ) (count : ℕ) (composed : Composed g Y ceiling count (tableAt g X 0 n) (tableAt g X (rule-rows ceiling) m))
         (kept-2 : Kept g X Y (In-rows ceiling (ceiling + n * m))) where
       abbrev made : List ℕ → List ℕ
       made = λ w. apply r (ok .makes w)
@@ -124,11 +124,11 @@ module _ (g : Grid) (W : List ℕ) (n ceiling : ℕ) (r : Rule) (ok : Addable g 
       count-fits : count ≤ n * m
       count-fits =
           let e : length (tableAt g X 0 n) ≡ n = length-at g X 0 n in
-          let f : length (tableAt g X (8 * ceiling) m) ≡ m = length-at g X (8 * ceiling) m in
+          let f : length (tableAt g X (rule-rows ceiling) m) ≡ m = length-at g X (rule-rows ceiling) m in
           subst (λ (i : ℕ). count ≤ i * m) e
           (subst (λ (i : ℕ). count ≤ length (tableAt g X 0 n) * i) f (composed .few))
 
-      count-rows : ceiling + count ≤ 8 * ceiling
+      count-rows : ceiling + count ≤ rule-rows ceiling
       count-rows = omega (arith, count-fits, product-fits)
 
       sized-2 : Sized g Y
@@ -217,7 +217,7 @@ module _ (g : Grid) (W : List ℕ) (n ceiling : ℕ) (r : Rule) (ok : Addable g 
             all-rows : Kept g W U (In-rows 0 (g .rows))
             all-rows =
                 kept-then g (In-rows 0 (g .rows)) W X U
-                (kept-wider g (In-rows 0 (g .rows)) (In-rows (8 * ceiling) (8 * ceiling + m)) W X (ruled .kept) (λ r' c' e' p. (omega arith, omega (arith, p .1, rule-fits, ruled .few))))
+                (kept-wider g (In-rows 0 (g .rows)) (In-rows (rule-rows ceiling) (rule-rows ceiling + m)) W X (ruled .kept) (λ r' c' e' p. (omega arith, omega (arith, p .1, rule-fits, ruled .few))))
                 (kept-then g (In-rows 0 (g .rows)) X Y U
                 (kept-wider g (In-rows 0 (g .rows)) (In-rows ceiling (ceiling + n * m)) X Y kept-2 (λ r' c' e' p. (omega arith, omega (arith, p .1, product-fits, ok .rows, ok .some))))
                 (kept-then g (In-rows 0 (g .rows)) Y Z U

@@ -11,22 +11,28 @@ use Rattle.transducers.specs.Tabulate.{Doing}
 use Rattle.minimal.specs.OneRule.{ruleTable}
 use Rattle.minimal.specs.TableOf.{add}
 use Rattle.workspace.specs.declared.Grid.{Grid}
-use Rattle.workspace.specs.Cells.{Sized, Kept, In-rows}
+use Rattle.workspace.specs.Entries.{FINAL}
+use Rattle.workspace.specs.Cells.{Sized, Kept, In-rows, Fits}
 use Rattle.workspace.specs.Holds.{Holds, tableAt}
+
+-- The rows: the table in those below the ceiling; from there its composition with the rule's transducer, which has at most one state
+-- more than a pattern has tags; then the rule's transducer.
+abbrev pub rule-rows : ℕ → ℕ
+rule-rows ceiling = (longest-pattern + 2) * ceiling
 
 -- the rows from 0 hold a canonical table, there is room for its composition with the rule, and its states can be noted
 pub record Addable (g : Grid) (W : List ℕ) (n ceiling : ℕ) (r : Rule) : Type 0 where
   pub sized : Sized g W
-  pub rows : 16 * ceiling ≤ g .rows
+  pub rows : rule-rows ceiling + (longest-pattern + 1) ≤ g .rows
   pub some : 1 ≤ ceiling
-  pub small : 8 * ceiling < 0x10000
+  pub small : rule-rows ceiling < 0x10000
   pub few : n ≤ ceiling
   pub holds : Holds g W 0 (tableAt g W 0 n)
   pub most : ℕ
   pub makes : List ℕ → List ℕ
   pub doing : Doing (g .tags) most makes (tableAt g W 0 n)
   pub canonical : Canonical (g .tags) (shape (tableAt g W 0 n))
-  pub deep : most + (longest-pattern - 1) + 8 ≤ g .depth
+  pub deep : Fits g FINAL (most + (longest-pattern - 1))
   pub valid : ValidRule longest-pattern (g .tags) r
 
 abbrev pub more : Grid → List ℕ → ℕ → Rule → Table

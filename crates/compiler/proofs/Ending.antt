@@ -11,6 +11,7 @@ use Rattle.answers.specs.Outcome.{refused, nothing}
 use Rattle.sentences.specs.Run.{written}
 use Rattle.compilation.specs.Compile.{fitting}
 use Rattle.workspace.specs.declared.Grid.{Grid}
+use Rattle.workspace.specs.Entries.{FINAL}
 use Rattle.workspace.specs.Cells.{word}
 use Rattle.workspace.specs.Holds.{Ready, tableAt}
 use Rattle.workspace.proofs.Views.{final-is, final-size, final-inner, output-is, output-inner, in-table}
@@ -56,7 +57,7 @@ module _ (g : Grid) (W : List ℕ) (n : ℕ) (ok : Ready g W 0 n) (tags : g .tag
               final =
                   record {
                     inner = final-inner g W 0 n ok q h;
-                    small = below-more (word g W (0 + q) (g .tags) 7) (rw (final-is g W 0 n ok q h) (ok .sound .final-below q (in-table g W 0 n ok q h)));
+                    small = below-more (word g W (0 + q) (g .tags) FINAL) (rw (final-is g W 0 n ok q h) (ok .sound .final-below q (in-table g W 0 n ok q h)));
                   };
               few = omega (arith, final-size g W 0 n ok q h, ok .held q (in-table g W 0 n ok q h), ok .room);
             };

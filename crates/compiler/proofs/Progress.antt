@@ -28,6 +28,10 @@ use Rattle.compiler.specs.Answer.{compileOutcome}
 use Rattle.compiler.specs.Rules.{Compilable, Gave}
 use Rattle.compiler.specs.declared.CompileAnswer.{CompileAnswer}
 
+-- the most tags that i rules hold back
+abbrev held-by : ℕ → ℕ
+held-by i = (longest-pattern - 1) * i
+
 -- n rules of the arrays from the i-th on
 abbrev pub from : Arrays → ℕ → ℕ → List Rule
 from a i zero = []
@@ -87,8 +91,8 @@ module _ (g : Grid) (W : List ℕ) (ceiling m : ℕ) (a : Arrays) (ok : Compilab
   valid-upto (suc i) h =
       subst (ValidRules longest-pattern k) (sym (rules-next a i)) (valid-append longest-pattern k (rulesOf a i) (ruleAt a i) (valid-upto i (omega arith)) (ok .readable .held .valid i (omega arith)))
 
-  good-upto : (i : ℕ) → i ≤ m → Good k (5 * i) (behavior (cascadeOf k a i)) (tableOf (cascadeOf k a i))
-  good-upto i h = let e : (longest-pattern - 1) * length (rulesOf a i) ≡ 5 * i = omega (arith, rules-long a i) in rw (← e) (good longest-pattern (cascadeOf k a i) (valid-upto i h))
+  good-upto : (i : ℕ) → i ≤ m → Good k (held-by i) (behavior (cascadeOf k a i)) (tableOf (cascadeOf k a i))
+  good-upto i h = let e : held-by (length (rulesOf a i)) ≡ held-by i = ap held-by (rules-long a i) in rw (← e) (good longest-pattern (cascadeOf k a i) (valid-upto i h))
 
   -- no rule is done
   pub progress-start : Holds g W 0 (table k identity) → Progress g W W ceiling m a 0 1
@@ -118,12 +122,12 @@ module _ (g : Grid) (W : List ℕ) (ceiling m : ℕ) (a : Arrays) (ok : Compilab
         let t = good-upto i (omega arith) in
         record {
           sized = sized-now;
-          rows = omega (arith, ok .rows);
+          rows = omega (arith, ok .rows, ok .readable .some);
           some = ok .readable .some;
           small = omega (arith, ok .readable .most);
           few = p .few;
           holds = holds-at g X 0 n (tableOf (cascadeOf k a i)) (p .holds) (p .long);
-          most = 5 * i;
+          most = held-by i;
           makes = behavior (cascadeOf k a i);
           doing = rw at-is (t .doing);
           canonical = rw at-is (t .canonical);
@@ -182,7 +186,7 @@ module _ (g : Grid) (W : List ℕ) (ceiling m : ℕ) (a : Arrays) (ok : Compilab
           small = omega (arith, p .few, ok .readable .most);
           holds = holds-at g X 0 n (tableOf (cascadeOf k a i)) (p .holds) (p .long);
           sound = rw at-is (t .doing .sound);
-          most = 5 * i;
+          most = held-by i;
           held = rw at-is (t .doing .held);
           room = omega (arith, ok .depth, p .inside);
         }

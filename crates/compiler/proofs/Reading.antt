@@ -10,7 +10,7 @@ use borrow.Author.Tests.{le-leb, lt-leb}
 use lib.Dec.{leb}
 use lib.ListN.{length, drop, getD, replicate, length-drop}
 use lib.Seq.{ext-getD, getD-drop}
-use Rattle.limits.specs.Limits.{most-states, work-entries}
+use Rattle.limits.specs.Limits.{most-states, work-rows, work-depth, work-entries}
 use Rattle.answers.specs.Outcome.{Place, Outcome, result, refused, nothing, andThen, provided}
 use Rattle.answers.specs.Answer.{refusal}
 use Rattle.answers.specs.declared.Refusal.{Refusal}
@@ -40,9 +40,9 @@ product-small a b c ha hb hc =
     (one, omega (arith, mul-le-mul-left (a * b) hc))
 
 abbrev pub gridOf : ℕ → ℕ → ℕ → Grid
-gridOf k ceiling m = record { rows = 16 * ceiling; tags = k; depth = 5 * m + 8 }
+gridOf k ceiling m = record { rows = work-rows ceiling; tags = k; depth = work-depth m }
 
-pub compilable : (k ceiling m : ℕ) (a : Arrays) (W : List ℕ) → Readable k ceiling m a → 16 * ceiling * (k + 1) * (5 * m + 8) ≤ length W
+pub compilable : (k ceiling m : ℕ) (a : Arrays) (W : List ℕ) → Readable k ceiling m a → work-entries ceiling k m ≤ length W
     → Compilable (gridOf k ceiling m) W ceiling m a
 compilable k ceiling m a W ok room =
     record {
@@ -109,10 +109,10 @@ module _ (k ceiling m : ℕ) (a : Arrays) (ok : Readable k ceiling m a) (t : ℕ
   readable = subst (λ (n : ℕ). Readable n ceiling m a) (sym e) ok
 
   abbrev all : ℕ
-  all = 16 * ceiling * (t + 1) * (5 * m + 8)
+  all = work-entries ceiling t m
 
   all-are : all ≡ entries ceiling (cascadeOf k a m)
-  all-are = ap (λ (n : ℕ). 16 * ceiling * (n + 1) * (5 * m + 8)) e ∙ ap (work-entries ceiling k) (sym (rules-long a m))
+  all-are = ap (λ (n : ℕ). work-entries ceiling n m) e ∙ ap (work-entries ceiling k) (sym (rules-long a m))
 
   pub short : (W out : List ℕ) → length W < all → (r : CompileAnswer) → compileOutcome r ≡ refused 9 nothing
       → Ended (roomed ceiling (length W) (cascadeOf k a m)) ceiling W W out out r
@@ -122,7 +122,7 @@ module _ (k ceiling m : ℕ) (a : Arrays) (ok : Readable k ceiling m a) (t : ℕ
       refused-ended (roomed ceiling (length W) (cascadeOf k a m)) ceiling 9 nothing is r f W out
 
   pub ended : (W X Y out after : List ℕ) (r : CompileAnswer) → all ≤ length W → Gave (built ceiling (length out) (cascadeOf t a m)) out after r
-      → Kept (gridOf t ceiling m) W X (In-rows 0 (16 * ceiling)) → Y ≡ replicate all 0 ++ drop all X
+      → Kept (gridOf t ceiling m) W X (In-rows 0 (work-rows ceiling)) → Y ≡ replicate all 0 ++ drop all X
       → Ended (roomed ceiling (length W) (cascadeOf k a m)) ceiling W Y out after r
   ended W X Y out after r h gave kept wiped =
       let c = cascadeOf k a m in

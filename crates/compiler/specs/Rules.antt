@@ -1,9 +1,9 @@
 -- Compiling the rules that the reader's arrays hold.
-use Prim.Native.Nat.{ℕ, _+_, _*_, _≤_}
+use Prim.Native.Nat.{ℕ, _≤_}
 use mathlib.Core.Path.{_≡_}
 use mathlib.Core.List.{List}
 use lib.ListN.{length}
-use Rattle.limits.specs.Limits.{most-states, most-tags}
+use Rattle.limits.specs.Limits.{most-states, most-tags, work-rows, work-depth}
 use Rattle.answers.specs.Outcome.{Outcome, andThen}
 use Rattle.cascades.specs.Rule.{Cascade}
 use Rattle.sentences.specs.Run.{written}
@@ -29,8 +29,8 @@ pub record Readable (k ceiling m : ℕ) (a : Arrays) : Type 0 where
 -- and the rows have the size that document 01 gives them
 pub record Compilable (g : Grid) (W : List ℕ) (ceiling m : ℕ) (a : Arrays) : Type 0 where
   pub sized : Sized g W
-  pub rows : g .rows ≡ 16 * ceiling
-  pub depth : g .depth ≡ 5 * m + 8
+  pub rows : g .rows ≡ work-rows ceiling
+  pub depth : g .depth ≡ work-depth m
   pub readable : Readable (g .tags) ceiling m a
 
 -- compiling has ended, where t is what was tested before a state was built: the answer, the output slice and the work slice

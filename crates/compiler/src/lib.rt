@@ -2,10 +2,12 @@
 use answers::Refusal;
 use books::BookAnswer;
 use books::HEAD;
-use cascades::Rule;
+use limits::LEAST_DEPTH;
 use limits::PATTERN;
 use limits::RULES;
+use limits::RULE_DEPTH;
 use limits::STATES;
+use limits::STATE_ROWS;
 use words::wide;
 use workspace::Grid;
 ghost use mathlib.Core.Path.{_≡_};
@@ -16,11 +18,9 @@ ghost use Rattle.tables.specs.Bytes.{encode};
 ghost use Rattle.compilation.specs.Compile.{fitting};
 ghost use Rattle.workspace.specs.Holds.{Ready, tableAt};
 ghost use Rattle.sentences.specs.Run.{written};
-ghost use Rattle.cascades.specs.Value.{ruleOf, Formed};
 ghost use Rattle.books.specs.Arrays.{arrays, cascadeOf};
 ghost use Rattle.compilation.specs.Compile.{roomed, tested, built, compileAnswer};
 ghost use Rattle.workspace.specs.Cells.{Kept, In-rows};
-ghost use Rattle.addition.specs.Addition.{Addable, Added};
 ghost use Rattle.compiler.specs.Answer.{compileOutcome, longOf, worked};
 ghost use Rattle.compiler.specs.Rules.{Gave, Readable, Compilable, Ended};
 
@@ -56,17 +56,6 @@ fn finish(work: &[u16], g: Grid, n: usize, out: &mut [u8]) -> CompileAnswer
     CompileAnswer::Table(end)
 }
 
-// Adds the rule to the table in the first n rows.
-fn add_to(work: &mut [u16], g: Grid, n: usize, ceiling: usize, rule: Rule) -> usize
-    requires { ⌜ Formed rule ⌝ }
-    requires { ⌜ Addable g (now work) n ceiling (ruleOf rule) ⌝ }
-    ensures { λ count. ⌜ Added g (now (work .entry)) (now (work .exit)) n ceiling (ruleOf rule) count ⌝ }
-{
-    let row = rule.row;
-    let length = rule.length;
-    addition::add_rule(work, g, n, ceiling, &row[..length], rule.place, rule.tag)
-}
-
 // The table of the first m rules of the arrays: its bytes, 10 or 11.
 fn compile_rules(
     work: &mut [u16],
@@ -87,7 +76,7 @@ fn compile_rules(
     let mut i = 0;
     while i < m {
         let rule = books::rule_at(rows, lengths, heads, i);
-        let count = add_to(work, g, n, ceiling, rule);
+        let count = addition::add_rule(work, g, n, ceiling, rule);
         if ceiling < count {
             return CompileAnswer::Refused(Refusal::AtRule {
                 number: 10,
@@ -115,9 +104,9 @@ fn compile_read(
     ensures { λ r. ⌜ Ended (roomed ceiling (length (now (work .entry))) (cascadeOf k (arrays (rows .entry) (lengths .entry) (heads .entry)) m)) ceiling (now (work .entry)) (now (work .exit)) (now (out .entry)) (now (out .exit)) r ⌝ }
 {
     let g = Grid {
-        rows: 16 * ceiling,
+        rows: STATE_ROWS * ceiling,
         tags: wide(k),
-        depth: 5 * m + 8,
+        depth: RULE_DEPTH * m + LEAST_DEPTH,
     };
     let entries = g.rows * (g.tags + 1) * g.depth;
     if work.len() < entries {

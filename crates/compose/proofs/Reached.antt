@@ -9,7 +9,7 @@ use Rattle.words.proofs.Word.{below-suc}
 use Rattle.transducers.specs.Transducer.{Shape}
 use Rattle.workspace.specs.declared.Grid.{Grid}
 use Rattle.workspace.specs.Entries.{NEXT, OUTPUT, FINAL}
-use Rattle.workspace.specs.Cells.{at, Kept, Cell, In-rows, Written}
+use Rattle.workspace.specs.Cells.{at, Kept, Cell, In-rows, Written, Fits}
 use Rattle.workspace.proofs.Regions.{kept-none, kept-then, kept-wider}
 use Rattle.workspace.proofs.Words.{word-kept}
 use Rattle.worklist.specs.Worklist.{memberOf, Worklist, Grown}
@@ -70,7 +70,7 @@ module _ (g : Grid) (base total : ℕ) (S : Shape) where
             leads-kept g base total (Step-notes g base total i a) X Y mid to i b (S .next s b) (S .output s b) (omega arith) (new .grown) (λ e. miss b e h) (m .steps b h)
         by b (inr e) = rw e (new .step)
 
-    pub row-done : (X Y : List ℕ) (to : ℕ) → length (S .final s) + 8 ≤ g .depth → Steps-paired g W X base total len i s S (g .tags) to
+    pub row-done : (X Y : List ℕ) (to : ℕ) → Fits g FINAL (length (S .final s)) → Steps-paired g W X base total len i s S (g .tags) to
         → Written g X Y (base + i) (g .tags) FINAL (S .final s) → Row-paired g W Y base total len i s S to
     row-done X Y to roomy m wrote =
         record {

@@ -12,7 +12,7 @@ use Rattle.transducers.specs.Table.{Table, shape}
 use Rattle.transducers.specs.Run.{walk, outputs}
 use Rattle.workspace.specs.declared.Grid.{Grid}
 use Rattle.workspace.specs.Entries.{NEXT, OUTPUT}
-use Rattle.workspace.specs.Cells.{at, word, Inner, Kept, Cell, Got, Written}
+use Rattle.workspace.specs.Cells.{at, word, Inner, Kept, Cell, Got, Written, Fits}
 use Rattle.workspace.specs.Holds.{StepAt, Holds, tableAt, standing}
 use Rattle.workspace.proofs.Regions.{kept-none, kept-then, sized-kept}
 use Rattle.workspace.proofs.Words.{word-length, word-kept, tag-kept}
@@ -83,7 +83,7 @@ module _ (g : Grid) (W : List ℕ) (base m q r c s r2 c2 s2 : ℕ) (ok : Runs g 
         size : at g X (base + state) tag OUTPUT ≡ length (standing g W base m .output state tag)
         size = sym (word-length g X (base + state) tag OUTPUT) ∙ ap length (step .output-is)
 
-        fits : length (standing g W base m .output state tag) + 2 ≤ g .depth
+        fits : Fits g OUTPUT (length (standing g W base m .output state tag))
         fits = ok .holds .roomy .outputs state tag in-table tag-below
 
         lengths : length (word g X r2 c2 s2) + length (standing g W base m .output state tag)

@@ -7,7 +7,8 @@ use Rattle.transducers.specs.Table.{Table, shape}
 use Rattle.transducers.specs.Canonical.{Sound, Held}
 use Rattle.transducers.specs.Tabulate.{Doing}
 use Rattle.workspace.specs.declared.Grid.{Grid}
-use Rattle.workspace.specs.Cells.{Sized}
+use Rattle.workspace.specs.Entries.{FINAL}
+use Rattle.workspace.specs.Cells.{Sized, Fits}
 use Rattle.workspace.specs.Holds.{Holds, tableAt}
 
 -- the first stands in n rows, the second in m rows, the rows from base between them are for the composition, a pair can be noted, and the
@@ -22,7 +23,7 @@ pub record Composable (g : Grid) (W : List ℕ) (first n second m base : ℕ) : 
   pub second-most : ℕ
   pub first-held : Held first-most (shape (tableAt g W first n))
   pub second-held : Held second-most (shape (tableAt g W second m))
-  pub room : first-most + second-most + 8 ≤ g .depth
+  pub room : Fits g FINAL (first-most + second-most)
   pub below : first + n ≤ base
   pub above : base + n * m ≤ second
   pub small : n * m < 0x10000

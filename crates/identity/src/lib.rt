@@ -11,12 +11,13 @@ ghost use Prim.Native.Nat.{_≤_, _<_};
 ghost use mathlib.Core.List.{[], _∷_};
 ghost use Rattle.transducers.specs.Tabulate.{table};
 ghost use Rattle.minimal.specs.TableOf.{identity};
-ghost use Rattle.workspace.specs.Cells.{Sized, Kept, In-rows};
+ghost use Rattle.workspace.specs.Entries.{FINAL};
+ghost use Rattle.workspace.specs.Cells.{Sized, Kept, In-rows, Fits};
 ghost use Rattle.workspace.specs.Holds.{Stepped, Stepping, Holds};
 
 fn write_step(work: &mut [u16], g: Grid, a: usize)
     requires { ⌜ Sized g (now work) ⌝ }
-    requires { ⌜ (0 < g .rows) × (8 ≤ g .depth) × (a < g .tags) ⌝ }
+    requires { ⌜ (0 < g .rows) × Fits g FINAL 0 × (a < g .tags) ⌝ }
     ensures { λ _. ⌜ Stepped g (now (work .entry)) (now (work .exit)) 0 a 0 (a ∷ []) ⌝ }
 {
     put(work, g, 0, a, NEXT, 0);
@@ -26,7 +27,7 @@ fn write_step(work: &mut [u16], g: Grid, a: usize)
 
 fn write_steps(work: &mut [u16], g: Grid)
     requires { ⌜ Sized g (now work) ⌝ }
-    requires { ⌜ (0 < g .rows) × (8 ≤ g .depth) ⌝ }
+    requires { ⌜ (0 < g .rows) × Fits g FINAL 0 ⌝ }
     ensures { λ _. ⌜ Stepping g (now (work .entry)) (now (work .exit)) 0 identity 0 (g .tags) ⌝ }
 {
     let tags = g.tags;
@@ -40,7 +41,7 @@ fn write_steps(work: &mut [u16], g: Grid)
 // To row 0.
 pub fn write_identity(work: &mut [u16], g: Grid)
     requires { ⌜ Sized g (now work) ⌝ }
-    requires { ⌜ (0 < g .rows) × (8 ≤ g .depth) ⌝ }
+    requires { ⌜ (0 < g .rows) × Fits g FINAL 0 ⌝ }
     ensures holds { λ _. ⌜ Holds g (now (work .exit)) 0 (table (g .tags) identity) ⌝ }
     ensures kept { λ _. ⌜ Kept g (now (work .entry)) (now (work .exit)) (In-rows 0 1) ⌝ }
 {

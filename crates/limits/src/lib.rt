@@ -19,3 +19,10 @@ pub const STATES: usize = 256;
 
 // The most tags that a state of a table holds back.
 pub const HELD: usize = 80;
+
+// The work slice: rows for each state of the ceiling; the entries of a cell for each rule, and the ones that every cell has.
+pub const STATE_ROWS: usize = 16;
+
+pub const RULE_DEPTH: usize = 5;
+
+pub const LEAST_DEPTH: usize = 8;

@@ -9,7 +9,7 @@ use lib.Seq.{drop-append-le, drop-append-add, length-take-le}
 use Rattle.words.proofs.Word.{below-suc}
 use Rattle.workspace.specs.declared.Grid.{Grid}
 use Rattle.workspace.specs.Entries.{NEXT, OUTPUT, FINAL, FRONT}
-use Rattle.workspace.specs.Cells.{at, word, Inner, Kept, Cell, Got, Written, part}
+use Rattle.workspace.specs.Cells.{at, word, Inner, Kept, Cell, Got, Written, part, Fits}
 use Rattle.workspace.specs.Holds.{StepAt}
 use Rattle.workspace.proofs.Regions.{kept-none, kept-then, kept-wider, sized-kept}
 use Rattle.workspace.proofs.Words.{word-length, word-kept, written-more, written-is}
@@ -54,7 +54,7 @@ module _ (g : Grid) (W : List ℕ) (base q a : ℕ) (ok : Strip g W base q a) wh
       ∙ sym (ap (λ (i : ℕ). drop i (o ++ z)) e ∙ drop-append-add o z (size g W base q - at g W (base + q) a OUTPUT)))
       (written-more g W X (base + q) a OUTPUT Y _ _ one two)
 
-  pub stripped-room : length (strippedAt g W base q a) + 2 ≤ g .depth
+  pub stripped-room : Fits g OUTPUT (length (strippedAt g W base q a))
   stripped-room =
       let o = word g W (base + q) a OUTPUT in
       let x = word g W (base + nextAt g W base q a) (g .tags) FINAL in
@@ -119,7 +119,7 @@ module _ (g : Grid) (W : List ℕ) (base q a : ℕ) (ok : Strip g W base q a) wh
     other-is = is-other ∙ ap (size g W base) is-next
 
     pub got-to : (X : List ℕ) → Kept g W X (Cell (base + q) a OUTPUT)
-        → Inner g X (base + next) (g .tags) FINAL × (other ≤ at g X (base + next) (g .tags) FINAL) × (own ≤ long + other) × (long + other + 2 ≤ g .depth)
+        → Inner g X (base + next) (g .tags) FINAL × (other ≤ at g X (base + next) (g .tags) FINAL) × (own ≤ long + other) × Fits g OUTPUT (long + other)
     got-to X k =
         let i = to-inner X k in
         (rw is-next (i .0), rw is-next (omega (arith, i .1, other-is, ok .front)), omega (arith, other-is, ok .covers), omega (arith, other-is, ok .room))

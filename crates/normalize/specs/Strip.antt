@@ -6,7 +6,7 @@ use lib.ListN.{take, drop}
 use Rattle.transducers.specs.Normalize.{normalize}
 use Rattle.workspace.specs.declared.Grid.{Grid}
 use Rattle.workspace.specs.Entries.{NEXT, OUTPUT, FINAL}
-use Rattle.workspace.specs.Cells.{at, word, Sized, Inner, Kept, In-rows}
+use Rattle.workspace.specs.Cells.{at, word, Sized, Inner, Kept, In-rows, Fits}
 use Rattle.workspace.specs.Holds.{StepAt, Holds, tableAt}
 use Rattle.normalize.specs.Fronts.{size}
 
@@ -26,7 +26,7 @@ pub record Strip (g : Grid) (W : List ℕ) (base q a : ℕ) : Type 0 where
   pub to : Inner g W (base + nextAt g W base q a) (g .tags) FINAL
   pub front : size g W base (nextAt g W base q a) ≤ at g W (base + nextAt g W base q a) (g .tags) FINAL
   pub covers : size g W base q ≤ at g W (base + q) a OUTPUT + size g W base (nextAt g W base q a)
-  pub room : at g W (base + q) a OUTPUT + size g W base (nextAt g W base q a) + 2 ≤ g .depth
+  pub room : Fits g OUTPUT (at g W (base + q) a OUTPUT + size g W base (nextAt g W base q a))
 
 -- steps in some rows and cells
 abbrev pub Steps : ℕ → ℕ → ℕ → ℕ → ℕ → ℕ → Type 0

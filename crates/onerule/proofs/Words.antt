@@ -18,6 +18,7 @@ use Rattle.minimal.specs.OneRule.{borders, oneRule}
 use Rattle.minimal.proofs.Matcher.{held-in, held-all, said-after, said-match, said-on, moves-after}
 use Rattle.minimal.proofs.OneRule.{borders-move}
 use Rattle.workspace.specs.declared.Grid.{Grid}
+use Rattle.workspace.specs.Entries.{FINAL}
 use Rattle.workspace.specs.Cells.{part}
 use Rattle.workspace.specs.Holds.{Roomy}
 use Rattle.workspace.proofs.Appending.{part-length}
@@ -111,7 +112,7 @@ module _ (u : List ℕ) (p b : ℕ) where
         ∙ sym (says-back e ∙ take-all (suc (length (part p j u)) - length (part p next u)) (part p j u ++ (a ∷ [])) (omega (arith, none, length-append (part p j u) (a ∷ []))))
 
   -- the words are within their cells
-  pub roomy-rule : (g : Grid) → p < length u → length u + 7 ≤ g .depth → Roomy g (oneRule (rule u p b))
+  pub roomy-rule : (g : Grid) → p < length u → length u + FINAL ≤ g .depth → Roomy g (oneRule (rule u p b))
   roomy-rule g inside deep =
       record {
         outputs = λ j a hj ha. by j a (omega arith) (eqb j (length u)) (eqb (overlap u (matched u j a)) (length u));

@@ -9,6 +9,7 @@ use Rattle.transducers.specs.Table.{Table}
 use Rattle.transducers.specs.Tabulate.{Doing}
 use Rattle.minimal.specs.OneRule.{oneRule}
 use Rattle.workspace.specs.declared.Grid.{Grid}
+use Rattle.workspace.specs.Entries.{FINAL}
 use Rattle.workspace.specs.Cells.{Sized, Kept, In-rows}
 use Rattle.workspace.specs.Holds.{Holds}
 
@@ -29,7 +30,7 @@ holds r j = oneRule r .final j
 pub record Room (g : Grid) (W : List ℕ) (r : Rule) : Type 0 where
   pub sized : Sized g W
   pub place-inside : r .place < length (r .pattern)
-  pub deep : length (r .pattern) + 7 ≤ g .depth
+  pub deep : length (r .pattern) + FINAL ≤ g .depth
 
 -- the rows from base hold a table of so many states that does what the rule does, and holds at most one tag less than the pattern has
 pub record Ruled (g : Grid) (W X : List ℕ) (base count : ℕ) (r : Rule) : Type 0 where

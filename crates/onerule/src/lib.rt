@@ -1,6 +1,7 @@
 // The transducer of one rule: it does what the rule does, and is the smallest one that does.
 // Time O(k l³) for k tags and a pattern of l tags; space is the l + 1 rows of the result.
 // From 002, definition 2, after Simon's string matching automaton: the states are the prefixes of the pattern, here by their lengths.
+use cascades::Rule;
 use words::lesser;
 use words::wide;
 use workspace::FINAL;
@@ -16,6 +17,7 @@ ghost use mathlib.Core.List.{[], _∷_, _++_};
 ghost use lib.ListN.{length, drop, take};
 ghost use Rattle.words.specs.Word.{prefix};
 ghost use Rattle.words.specs.Overlap.{overlap};
+ghost use Rattle.cascades.specs.Value.{ruleOf, Formed};
 ghost use Rattle.minimal.specs.OneRule.{oneRule};
 ghost use Rattle.workspace.specs.Entries.{OUTPUT, FINAL};
 ghost use Rattle.workspace.specs.Cells.{at, word, Sized, Written, part};
@@ -173,8 +175,8 @@ fn write_state(work: &mut [u16], g: Grid, r: usize, u: &[u8], place: usize, tag:
     write_final(work, g, r, u, place, tag, j);
 }
 
-// The rule's transducer to the rows from `base`: the number of its states.
-pub fn write_rule(work: &mut [u16], g: Grid, base: usize, u: &[u8], place: usize, tag: u8) -> usize
+// The states of the rule's transducer to the rows from `base`: their number.
+fn write_states(work: &mut [u16], g: Grid, base: usize, u: &[u8], place: usize, tag: u8) -> usize
     requires { ⌜ Room g (now work) (rule (now u) place tag) ⌝ }
     requires { ⌜ base + (length (now u) + 1) ≤ g .rows ⌝ }
     ensures { λ count. ⌜ Ruled g (now (work .entry)) (now (work .exit)) base count (rule (now (u .entry)) place tag) ⌝ }
@@ -185,4 +187,16 @@ pub fn write_rule(work: &mut [u16], g: Grid, base: usize, u: &[u8], place: usize
         j += 1;
     }
     j
+}
+
+// The rule's transducer to the rows from `base`: the number of its states.
+pub fn write_rule(work: &mut [u16], g: Grid, base: usize, rule: Rule) -> usize
+    requires { ⌜ Formed rule ⌝ }
+    requires { ⌜ Room g (now work) (ruleOf rule) ⌝ }
+    requires { ⌜ base + (length (ruleOf rule .pattern) + 1) ≤ g .rows ⌝ }
+    ensures { λ count. ⌜ Ruled g (now (work .entry)) (now (work .exit)) base count (ruleOf rule) ⌝ }
+{
+    let row = rule.row;
+    let length = rule.length;
+    write_states(work, g, base, &row[..length], rule.place, rule.tag)
 }

@@ -14,13 +14,13 @@ use Rattle.transducers.proofs.Tabulate.{agree-table, rows-table, length-table, 
 use Rattle.transducers.proofs.Run.{output-length}
 use Rattle.workspace.specs.declared.Grid.{Grid}
 use Rattle.workspace.specs.Entries.{NEXT, OUTPUT, FINAL}
-use Rattle.workspace.specs.Cells.{at, word, Kept, In-rows, Entry, Cell, Put, Written}
+use Rattle.workspace.specs.Cells.{at, word, Kept, In-rows, Entry, Cell, Put, Written, Fits}
 use Rattle.workspace.specs.Holds.{StepAt, Stepped, RowAt, Rowed, Roomy, Holds, Stepping, Filling, held, tableAt}
 use Rattle.workspace.proofs.Regions.{kept-none, kept-then, kept-wider}
 use Rattle.workspace.proofs.Words.{word-length, word-kept}
 
 module _ (g : Grid) (P : ℕ → ℕ → ℕ → Type 0) (W X : List ℕ) (k : Kept g W X P) where
-  pub step-kept : (r a next : ℕ) (output : List ℕ) → StepAt g W r a next output → a < g .tags → length output + 2 ≤ g .depth
+  pub step-kept : (r a next : ℕ) (output : List ℕ) → StepAt g W r a next output → a < g .tags → Fits g OUTPUT (length output)
       → ((e : ℕ) → P r a e → ⊥) → StepAt g X r a next output
   step-kept r a next output s ha room out =
       record {
@@ -29,7 +29,7 @@ module _ (g : Grid) (P : ℕ → ℕ → ℕ → Type 0) (W X : List ℕ) (k : K
             word-kept g P W X k r a OUTPUT (omega arith) (omega (arith, word-length g W r a OUTPUT, ap length (s .output-is))) (λ e h. out e) ∙ s .output-is;
       }
 
-  pub final-kept : (r : ℕ) (w : List ℕ) → word g W r (g .tags) FINAL ≡ w → length w + 8 ≤ g .depth
+  pub final-kept : (r : ℕ) (w : List ℕ) → word g W r (g .tags) FINAL ≡ w → Fits g FINAL (length w)
       → ((e : ℕ) → FINAL ≤ e → P r (g .tags) e → ⊥) → word g X r (g .tags) FINAL ≡ w
   final-kept r w is room out =
       word-kept g P W X k r (g .tags) FINAL (omega arith) (omega (arith, word-length g W r (g .tags) FINAL, ap length is)) out ∙ is
@@ -204,7 +204,7 @@ pub holds-at : (g : Grid) (W : List ℕ) (base n : ℕ) (t : Table) → Holds g 
 holds-at g W base n t h long = rw (table-at g W base n t h long) h
 
 -- words have room if the states hold few tags
-pub roomy-held : (g : Grid) (d : ℕ) (S : Shape) → Sound (g .tags) S → Held d S → d + 8 ≤ g .depth → Roomy g S
+pub roomy-held : (g : Grid) (d : ℕ) (S : Shape) → Sound (g .tags) S → Held d S → Fits g FINAL d → Roomy g S
 roomy-held g d S sound h deep =
     record {
       outputs = λ q a hq ha. omega (arith, output-length (g .tags) d S sound h q a hq ha);
@@ -213,7 +213,7 @@ roomy-held g d S sound h deep =
 
 -- rows that hold the states of S hold its table, if that does something and holds few tags
 pub holds-doing : (g : Grid) (W : List ℕ) (base : ℕ) (S : Shape) (d : ℕ) (f : List ℕ → List ℕ) → Doing (g .tags) d f (table (g .tags) S)
-    → d + 8 ≤ g .depth → base + S .count ≤ g .rows → ((q : ℕ) → q < S .count → RowAt g W (base + q) S q) → Holds g W base (table (g .tags) S)
+    → Fits g FINAL d → base + S .count ≤ g .rows → ((q : ℕ) → q < S .count → RowAt g W (base + q) S q) → Holds g W base (table (g .tags) S)
 holds-doing g W base S d f doing deep room states =
     holds-table g W base S room
     (λ q a hq ha. omega (arith, agree .nexts q a hq ha, doing .sound .next-below q a (up q hq) ha, length-table k S))

@@ -34,6 +34,10 @@ pub record In (g : Grid) (r c e : ℕ) : Type 0 where
   pub cell : c < g .tags + 1
   pub entry : e < g .depth
 
+-- a word of n tags at entry s is within its cell
+abbrev pub Fits : Grid → ℕ → ℕ → Type 0
+Fits g s n = n + (s + 1) ≤ g .depth
+
 -- the word of that length at s is within its cell
 pub record Inner (g : Grid) (W : List ℕ) (r c s : ℕ) : Type 0 where
   pub row : r < g .rows

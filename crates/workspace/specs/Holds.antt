@@ -10,7 +10,7 @@ use Rattle.transducers.specs.Canonical.{Inside, Sound, Held}
 use Rattle.transducers.specs.Tabulate.{table, Rows}
 use Rattle.workspace.specs.declared.Grid.{Grid}
 use Rattle.workspace.specs.Entries.{NEXT, OUTPUT, FINAL}
-use Rattle.workspace.specs.Cells.{at, word, Sized, Kept, Cell, In-rows}
+use Rattle.workspace.specs.Cells.{at, word, Sized, Kept, Cell, In-rows, Fits}
 
 -- a cell holds a step
 pub record StepAt (g : Grid) (W : List ℕ) (r a next : ℕ) (output : List ℕ) : Type 0 where
@@ -34,8 +34,8 @@ pub record Rowed (g : Grid) (W X : List ℕ) (r : ℕ) (S : Shape) (q : ℕ) : T
 
 -- the words of S are within their cells
 pub record Roomy (g : Grid) (S : Shape) : Type 0 where
-  pub outputs : (q a : ℕ) → q < S .count → a < g .tags → length (S .output q a) + 2 ≤ g .depth
-  pub finals : (q : ℕ) → q < S .count → length (S .final q) + 8 ≤ g .depth
+  pub outputs : (q a : ℕ) → q < S .count → a < g .tags → Fits g OUTPUT (length (S .output q a))
+  pub finals : (q : ℕ) → q < S .count → Fits g FINAL (length (S .final q))
 
 -- the transducer that n rows from a base hold, and its table
 abbrev pub held : Grid → List ℕ → ℕ → ℕ → Shape
@@ -80,4 +80,4 @@ pub record Ready (g : Grid) (W : List ℕ) (base n : ℕ) : Type 0 where
   pub sound : Sound (g .tags) (standing g W base n)
   pub most : ℕ
   pub held : Held most (standing g W base n)
-  pub room : most + 8 ≤ g .depth
+  pub room : Fits g FINAL most

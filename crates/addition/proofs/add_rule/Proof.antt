@@ -1,8 +1,8 @@
 -- `addition::add_rule` meets its contract: the laws of the phases, one after the other.
 use native.Mathlib.Omega.{arith}
 use borrow.Author.Needs.{needs}
-use Rattle.onerule.specs.Rule.{rule}
 use Rattle.cascades.specs.Rule.{Rule}
+use Rattle.cascades.specs.Value.{ruleOf}
 use Rattle.addition.proofs.Phases.{composable, ready-composed, ready-normalized, early-normalized, is-classed, added}
 use Rattle.addition.proofs.add_rule.Statement.{statement}
 use Rattle.addition.proofs.add_rule.Tie as tie
@@ -15,7 +15,10 @@ use Rattle.number.proofs.number.Reads as number-reads
 use Rattle.onerule.proofs.write_rule.Reads as write-rule-reads
 
 abbrev the-rule : tie.Start → Rule
-the-rule st = rule (st .args .u .now) (st .args .place) (st .args .tag)
+the-rule st = ruleOf (st .args .rule)
+
+add-second : tie.Need-add-second
+add-second c = search needs
 
 mul-second : tie.Need-mul-second
 mul-second c = search needs
@@ -25,51 +28,52 @@ write-rule-requires c κs = search needs
 
 compose-requires : tie.Need-compose-requires
 compose-requires c κs =
-    let st = c .before .before .before .before .before .before .before in
+    let st = c .before .before .before .before .before .before in
     let w = c .before .before .before .write-rule in
-    composable (st .args .g) (st .args .work .now) (st .args .n) (st .args .ceiling) (the-rule st) (st .pre) _ (w .result) (w .ensures)
+    composable (st .args .g) (st .args .work .now) (st .args .n) (st .args .ceiling) (the-rule st) (st .pre .1) _ (w .result) (w .ensures)
 
 merge-requires : tie.Need-merge-requires
 merge-requires c κs =
-    let st = c .before .before .before .before .before .before .before .before .before .before .before .before .before .before .before in
+    let st = c .before .before .before .before .before .before .before .before .before .before .before .before .before .before in
     let w = c .before .before .before .before .before .before .before .before .before .before .before .write-rule in
     let d = c .before .before .before .before .before .before .before .compose in
     let e = c .before .before .before .normalize in
-    (ready-normalized (st .args .g) (st .args .work .now) (st .args .n) (st .args .ceiling) (the-rule st) (st .pre) _ (w .result) (w .ensures) _ _ (d .ensures .0) (d .ensures .1) _ (e .ensures), early-normalized (st .args .g) (st .args .work .now) (st .args .n) (st .args .ceiling) (the-rule st) (st .pre) _ (w .result) (w .ensures) _ _ (d .ensures .0) (d .ensures .1) _ (e .ensures))
+    (ready-normalized (st .args .g) (st .args .work .now) (st .args .n) (st .args .ceiling) (the-rule st) (st .pre .1) _ (w .result) (w .ensures) _ _ (d .ensures .0) (d .ensures .1) _ (e .ensures), early-normalized (st .args .g) (st .args .work .now) (st .args .n) (st .args .ceiling) (the-rule st) (st .pre .1) _ (w .result) (w .ensures) _ _ (d .ensures .0) (d .ensures .1) _ (e .ensures))
 
 normalize-requires : tie.Need-normalize-requires
 normalize-requires c κs =
-    let st = c .before .before .before .before .before .before .before .before .before .before .before in
+    let st = c .before .before .before .before .before .before .before .before .before .before in
     let w = c .before .before .before .before .before .before .before .write-rule in
     let d = c .before .before .before .compose in
-    ready-composed (st .args .g) (st .args .work .now) (st .args .n) (st .args .ceiling) (the-rule st) (st .pre) _ (w .result) (w .ensures) _ _ (d .ensures .0) (d .ensures .1)
+    ready-composed (st .args .g) (st .args .work .now) (st .args .n) (st .args .ceiling) (the-rule st) (st .pre .1) _ (w .result) (w .ensures) _ _ (d .ensures .0) (d .ensures .1)
 
 number-requires : tie.Need-number-requires
 number-requires c κs =
-    let st = c .before .before .before .before .before .before .before .before .before .before .before .before .before .before .before .before .before .before .before in
+    let st = c .before .before .before .before .before .before .before .before .before .before .before .before .before .before .before .before .before .before in
     let w = c .before .before .before .before .before .before .before .before .before .before .before .before .before .before .before .write-rule in
     let d = c .before .before .before .before .before .before .before .before .before .before .before .compose in
     let e = c .before .before .before .before .before .before .before .normalize in
     let m = c .before .before .before .merge in
-    (is-classed (st .args .g) (st .args .work .now) (st .args .n) (st .args .ceiling) (the-rule st) (st .pre) _ (w .result) (w .ensures) _ _ (d .ensures .0) (d .ensures .1) _ (e .ensures) _ (m .ensures), omega arith)
+    (is-classed (st .args .g) (st .args .work .now) (st .args .n) (st .args .ceiling) (the-rule st) (st .pre .1) _ (w .result) (w .ensures) _ _ (d .ensures .0) (d .ensures .1) _ (e .ensures) _ (m .ensures), omega arith)
 
 same-length : tie.Need-same-length
 same-length c = search needs
 
 returns : tie.Need-returns
 returns c =
-    let st = c .before .before .before .before .before .before .before .before .before .before .before .before .before .before .before .before .before .before .before .before .before .before in
+    let st = c .before .before .before .before .before .before .before .before .before .before .before .before .before .before .before .before .before .before .before .before .before in
     let w = c .before .before .before .before .before .before .before .before .before .before .before .before .before .before .before .before .before .before .write-rule in
     let d = c .before .before .before .before .before .before .before .before .before .before .before .before .before .before .compose in
     let e = c .before .before .before .before .before .before .before .before .before .before .normalize in
     let m = c .before .before .before .before .before .before .merge in
     let u = c .before .before .number in
-    added (st .args .g) (st .args .work .now) (st .args .n) (st .args .ceiling) (the-rule st) (st .pre) _ (w .result) (w .ensures) _ _ (d .ensures .0) (d .ensures .1) _ (e .ensures) _ (m .ensures) _ _ (u .ensures)
+    added (st .args .g) (st .args .work .now) (st .args .n) (st .args .ceiling) (the-rule st) (st .pre .1) _ (w .result) (w .ensures) _ _ (d .ensures .0) (d .ensures .1) _ (e .ensures) _ (m .ensures) _ _ (u .ensures)
 
 pub add-rule-spec : {M : Type 1} → statement M
 add-rule-spec =
     tie.close
     (tie.spec
+    add-second
     mul-second
     write-rule-requires
     compose-requires

@@ -1,8 +1,9 @@
 -- `compiler::compile_read` meets its contract.
-use Prim.Native.Nat.{_+_, _*_}
+use Prim.Native.Nat.{_+_}
 use native.Mathlib.Omega.{arith}
 use borrow.Author.Needs.{needs}
 use mathlib.Core.Path.{refl}
+use Rattle.limits.specs.Limits.{work-rows, work-depth}
 use Rattle.books.specs.Arrays.{Arrays, holding}
 use Rattle.compiler.proofs.Reading.{product-small, compilable, readable, short, ended}
 use Rattle.compiler.proofs.compile_read.Statement.{statement}
@@ -35,13 +36,13 @@ mul-entries-3 : tie.Need-mul-entries-3
 mul-entries-3 c =
     let st = c .before .before .before .before .before in
     let w = c .before .before .wide in
-    omega (arith, (product-small (16 * st .args .ceiling) (w .result + 1) (5 * st .args .m + 8) (omega (arith, st .pre .most)) (omega (arith, w .ensures .0, st .pre .tags)) (omega (arith, st .pre .held .few))) .0)
+    omega (arith, (product-small (work-rows (st .args .ceiling)) (w .result + 1) (work-depth (st .args .m)) (omega (arith, st .pre .most)) (omega (arith, w .ensures .0, st .pre .tags)) (omega (arith, st .pre .held .few))) .0)
 
 mul-entries-4 : tie.Need-mul-entries-4
 mul-entries-4 c =
     let st = c .before .before .before .before .before .before in
     let w = c .before .before .before .wide in
-    omega (arith, (product-small (16 * st .args .ceiling) (w .result + 1) (5 * st .args .m + 8) (omega (arith, st .pre .most)) (omega (arith, w .ensures .0, st .pre .tags)) (omega (arith, st .pre .held .few))) .1)
+    omega (arith, (product-small (work-rows (st .args .ceiling)) (w .result + 1) (work-depth (st .args .m)) (omega (arith, st .pre .most)) (omega (arith, w .ensures .0, st .pre .tags)) (omega (arith, st .pre .held .few))) .1)
 
 returns : tie.Need-returns
 returns c =

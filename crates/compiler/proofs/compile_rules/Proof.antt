@@ -16,7 +16,7 @@ use Rattle.compiler.proofs.compile_rules.Statement.{statement}
 use Rattle.compiler.proofs.compile_rules.Tie as tie
 use Rattle.compiler.proofs.compile_rules.Reads as reads
 use Rattle.compiler.proofs.compile_rules.Lts as lts
-use Rattle.compiler.proofs.add_to.Reads as add-to-reads
+use Rattle.addition.proofs.add_rule.Reads as add-rule-reads
 use Rattle.books.proofs.rule_at.Reads as rule-at-reads
 use Rattle.compiler.proofs.finish.Reads as finish-reads
 use Rattle.identity.proofs.write_identity.Reads as write-identity-reads
@@ -46,8 +46,8 @@ loop-holds c =
 rule-at-requires : tie.Need-rule-at-requires Inv-loop μ-loop
 rule-at-requires c κs = let st = c .before .before .before .before .before .before .before .before in (st .pre .readable .held .shaped, omega (arith, st .pre .readable .held .few))
 
-add-to-requires : tie.Need-add-to-requires Inv-loop μ-loop
-add-to-requires c κs =
+add-rule-requires : tie.Need-add-rule-requires Inv-loop μ-loop
+add-rule-requires c κs =
     let st = c .before .before .before .before .before .before .before .before .before .before in
     let w = c .before .before .before .before .before .before .write-identity in
     let l = c .before .before .before .loop in
@@ -70,7 +70,7 @@ returns c =
     let l = c .before .before .before .before .before .before .before .loop in
     let less = c .before .before .before .before .before .before .loop-test .taken in
     let r = c .before .before .before .before .before .rule-at in
-    let u = c .before .before .before .add-to in
+    let u = c .before .before .before .add-rule in
     let added = subst (λ (x : Rule). Added (st .args .g) (l .work) (u .last .0) (l .n) (st .args .ceiling) x (u .result)) (r .ensures .0) (u .ensures) in (
       gave-rule _ (l .i + 1) (too-many (st .args .g) (w .last .0) (st .args .ceiling) (st .args .m) (the-arrays st) (now-ok st (w .last .0) (w .ensures .1 .long)) (l .work) (l .i) (l .n) (l .inv) (omega (arith, less)) (u .last .0) (u .result) added (omega arith) (length (st .args .out .now)))
           (st .args .out .now) _ refl,
@@ -91,7 +91,7 @@ loop-again c =
     let l = c .before .before .before .before .before .before .before .loop in
     let less = c .before .before .before .before .before .before .loop-test .taken in
     let r = c .before .before .before .before .before .rule-at in
-    let u = c .before .before .before .add-to in
+    let u = c .before .before .before .add-rule in
     let added = subst (λ (x : Rule). Added (st .args .g) (l .work) (u .last .0) (l .n) (st .args .ceiling) x (u .result)) (r .ensures .0) (u .ensures) in
     progress-next (st .args .g) (w .last .0) (st .args .ceiling) (st .args .m) (the-arrays st) (now-ok st (w .last .0) (w .ensures .1 .long)) (l .work) (l .i) (l .n) (l .inv) (omega (arith, less)) (u .last .0) (u .result) added (omega arith)
 
@@ -129,7 +129,7 @@ compile-rules-spec =
     write-identity-requires
     loop-holds
     rule-at-requires
-    add-to-requires
+    add-rule-requires
     add-t19
     same-length
     returns

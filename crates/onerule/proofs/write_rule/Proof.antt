@@ -1,78 +1,32 @@
-use Rattle.onerule.proofs.Words.{roomy-rule, inside-rule}
-use Rattle.onerule.specs.Rule.{rule}
-use Rattle.workspace.proofs.Holds.{filling-start, filling-next, holds-table}
-use Rattle.workspace.specs.Holds.{Filling}
-use Rattle.minimal.specs.OneRule.{oneRule, ruleTable}
-use Rattle.minimal.proofs.TableOf.{doing-rule}
-use Rattle.transducers.proofs.Tabulate.{length-table}
-use mathlib.Core.Path.{_≡_, _∙_}
-use lib.ListN.{length}
+-- `onerule::write_rule` meets its contract: the row's first tags are the rule's pattern.
 use native.Mathlib.Omega.{arith}
-use Prim.Native.Nat.{_+_, _-_, _≤_}
 use borrow.Author.Needs.{needs}
+use mathlib.Core.Path.{sym}
+use lib.Seq.{length-take-le}
 use Rattle.onerule.proofs.write_rule.Statement.{statement}
 use Rattle.onerule.proofs.write_rule.Tie as tie
 use Rattle.onerule.proofs.write_rule.Reads as reads
 use Rattle.onerule.proofs.write_rule.Lts as lts
-use Rattle.onerule.proofs.write_state.Reads as write-state-reads
+use Rattle.onerule.proofs.write_states.Reads as write-states-reads
 
-abbrev Inv-loop : tie.InvT-loop
-Inv-loop work₀ g base u place tag j₀ work j = (j ≤ length u + 1) × Filling g work₀ work base (length u + 1) (oneRule (rule u place tag)) j
+array-share-prefix-row : tie.Need-array-share-prefix-row
+array-share-prefix-row c = let st = c .before .before .before in omega (arith, st .pre .0 .row-long, st .pre .0 .length-short)
 
-abbrev μ-loop : tie.MeasureT-loop
-μ-loop work₀ g base u place tag j₀ work j = length u + 1 - j
+slice-aggregate-write-states : tie.Need-slice-aggregate-write-states
+slice-aggregate-write-states c =
+    let st = c .before .before .before .before in
+    sym (length-take-le (st .args .rule .length) (st .args .rule .row) (omega (arith, st .pre .0 .row-long, st .pre .0 .length-short)))
 
-loop-holds : tie.Need-loop-holds Inv-loop μ-loop
-loop-holds c = let st = c .before .before in let a = st .args in (
-  omega arith,
-  filling-start (a .g) (a .base) _ (oneRule (rule (a .u .now) (a .place) (a .tag))) (roomy-rule (a .u .now) (a .place) (a .tag) (a .g) (st .pre .0 .place-inside) (st .pre .0 .deep)) (omega arith) (a .work .now),
-)
+write-states-requires : tie.Need-write-states-requires
+write-states-requires c κs = let st = c .before .before .before .before in st .pre .1
 
-add-write-state : tie.Need-add-write-state Inv-loop μ-loop
-add-write-state c = search needs
+same-length : tie.Need-same-length
+same-length c = search needs
 
-write-state-requires : tie.Need-write-state-requires Inv-loop μ-loop
-write-state-requires c κs = search needs
-
-add-j : tie.Need-add-j Inv-loop μ-loop
-add-j c = search needs
-
-loop-less : tie.Need-loop-less Inv-loop μ-loop
-loop-less c = search needs
-
-loop-again : tie.Need-loop-again Inv-loop μ-loop
-loop-again c = let st = c .before .before .before .before .before .before .before .before in let a = st .args in (
-  omega arith,
-  filling-next (a .g) (a .base) (length (a .u .now) + 1) (oneRule (rule (a .u .now) (a .place) (a .tag))) (roomy-rule (a .u .now) (a .place) (a .tag) (a .g) (st .pre .0 .place-inside) (st .pre .0 .deep)) (omega arith) _ _ _ _ (omega arith) (c .before .before .before .before .before .loop .inv .1) (c .before .before .write-state .ensures),
-)
-
-same-length : tie.Need-same-length Inv-loop μ-loop
-same-length c = c .before .loop .inv .1 .kept .long
-
-returns : tie.Need-returns Inv-loop μ-loop
-returns c = let st = c .before .before .before .before in let a = st .args in let r = rule (a .u .now) (a .place) (a .tag) in let l = c .before .loop in let last : l .j ≡ length (a .u .now) + 1 = omega arith in
-    record {
-      table = ruleTable (a .g .tags) r;
-      long = length-table (a .g .tags) (oneRule r) ∙ (omega arith);
-      few = omega arith;
-      holds =
-          holds-table (a .g) (l .work) (a .base) (oneRule r) (omega arith) (inside-rule (a .u .now) (a .place) (a .tag) (a .g .tags))
-          (roomy-rule (a .u .now) (a .place) (a .tag) (a .g) (st .pre .0 .place-inside) (st .pre .0 .deep)) (λ q h. l .inv .1 .states q (omega arith));
-      doing = λ m v. doing-rule m (a .g .tags) r v;
-      kept = rw last (l .inv .1 .kept);
-    }
+returns : tie.Need-returns
+returns c = c .before .before .write-states .ensures
 
 pub write-rule-spec : {M : Type 1} → statement M
 write-rule-spec =
     tie.close
-    (tie.spec
-    Inv-loop
-    μ-loop
-    loop-holds
-    add-write-state
-    write-state-requires
-    add-j
-    loop-less
-    loop-again
-    same-length
-    returns)
+    (tie.spec array-share-prefix-row slice-aggregate-write-states write-states-requires same-length returns)
