@@ -7,7 +7,7 @@ use workspace::OUTPUT;
 use workspace::clear;
 use workspace::push;
 use workspace::put;
-ghost use Prim.Native.Nat.{_≤_, _<_};
+ghost use Prim.Native.Nat.{_<_};
 ghost use mathlib.Core.List.{[], _∷_};
 ghost use Rattle.transducers.specs.Tabulate.{table};
 ghost use Rattle.minimal.specs.TableOf.{identity};

@@ -6,14 +6,14 @@ use native.Mathlib.Numerals.{add-one}
 use mathlib.Core.Path.{_≡_, refl, sym, ap, ap₂, _∙_}
 use mathlib.Core.Bool.{Bool, true, false}
 use mathlib.Core.List.{List, [], _∷_, _++_}
-use borrow.Author.Tests.{eq-eqb, ne-eqb, eqb-false}
+use borrow.Author.Tests.{eqb-false}
 use lib.Dec.{eqb}
-use lib.ListN.{length, getD, set, take, drop, length-append, length-drop, length-take, length-set, drop-of-length-le}
+use lib.ListN.{length, set, take, drop, length-append, length-drop, length-take, length-set, drop-of-length-le}
 use lib.Seq.{drop-cons, getD-set-same, drop-set-lt, take-length, take-all, take-append-le, take-take, take-add, drop-at, length-take-le}
 use Rattle.words.specs.Overlap.{overlap}
 use Rattle.words.proofs.Overlap.{overlap-le}
 use Rattle.transducers.specs.Canonical.{Inside}
-use Rattle.minimal.specs.Matcher.{held, said, moves}
+use Rattle.minimal.specs.Matcher.{held}
 use Rattle.minimal.specs.OneRule.{borders, oneRule}
 use Rattle.minimal.proofs.Matcher.{held-in, held-all, said-after, said-match, said-on, moves-after}
 use Rattle.minimal.proofs.OneRule.{borders-move}
