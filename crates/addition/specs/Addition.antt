@@ -7,13 +7,12 @@ use Rattle.limits.specs.Limits.{longest-pattern}
 use Rattle.cascades.specs.Rule.{Rule, ValidRule}
 use Rattle.transducers.specs.Table.{Table, shape}
 use Rattle.transducers.specs.Canonical.{Canonical}
-use Rattle.transducers.specs.Tabulate.{Doing}
 use Rattle.minimal.specs.OneRule.{ruleTable}
 use Rattle.minimal.specs.TableOf.{add}
 use Rattle.workspace.specs.declared.Grid.{Grid}
 use Rattle.workspace.specs.Entries.{FINAL}
 use Rattle.workspace.specs.Cells.{Sized, Kept, In-rows, Fits}
-use Rattle.workspace.specs.Holds.{Holds, tableAt}
+use Rattle.workspace.specs.Holds.{Holds, Stands, tableAt}
 
 -- The rows: the table in those below the ceiling; from there its composition with the rule's transducer, which has at most one state
 -- more than a pattern has tags; then the rule's transducer.
@@ -27,11 +26,9 @@ pub record Addable (g : Grid) (W : List ℕ) (n ceiling : ℕ) (r : Rule) : Type
   pub some : 1 ≤ ceiling
   pub small : rule-rows ceiling < 0x10000
   pub few : n ≤ ceiling
-  pub holds : Holds g W 0 (tableAt g W 0 n)
   pub most : ℕ
   pub makes : List ℕ → List ℕ
-  pub doing : Doing (g .tags) most makes (tableAt g W 0 n)
-  pub canonical : Canonical (g .tags) (shape (tableAt g W 0 n))
+  pub stands : Stands g W 0 n most makes (λ t. Canonical (g .tags) (shape t))
   pub deep : Fits g FINAL (most + (longest-pattern - 1))
   pub valid : ValidRule longest-pattern (g .tags) r
 

@@ -12,3 +12,9 @@ pub enum RunAnswer {
     Changed(usize),
     Refused(Refusal),
 }
+
+// Of compile: the number of bytes of the table.
+pub enum CompileAnswer {
+    Table(usize),
+    Refused(Refusal),
+}

@@ -3,15 +3,14 @@ use Prim.Native.Nat.{ℕ, zero, suc, _+_, _-_, _≤_, _<_}
 use native.Mathlib.Omega.{arith}
 use native.Mathlib.Numerals.{add-one}
 use native.Mathlib.Decide.{ℕ-discrete, decLt}
-use mathlib.Core.Path.{_≡_, refl, sym, ap, _∙_, subst}
+use mathlib.Core.Path.{_≡_, refl, sym, ap, _∙_}
 use mathlib.Core.List.{List, [], _∷_, _++_}
-use mathlib.Core.Bool.{true, false}
+use mathlib.Core.Bool.{true}
 use borrow.Author.Tests.{lt-ltb, le-ltb, eq-eqb, ne-eqb}
-use lib.Dec.{eqb, ltb}
+use lib.Dec.{ltb}
 use lib.ListN.{length, getD, set, take, replicate, length-set, getD-replicate}
 use lib.Seq.{length-take-le, getD-take, getD-set-same, getD-set-other, take-suc-set, set-out}
 use Rattle.limits.specs.Limits.{most-rules, longest-pattern}
-use Rattle.cascades.specs.Rule.{Rule}
 use Rattle.books.specs.Read.{closing, opened, longer}
 use Rattle.books.specs.Arrays.{Arrays, holding, Shaped, placeAt, tagAt, ruleAt, rulesDown}
 use Rattle.books.specs.Resume.{faulted}

@@ -1,17 +1,14 @@
 -- Reading one command: what the definition makes of the bytes at `at`, in each case that the code tells apart.
 use Prim.Native.Nat.{ℕ, zero, suc, _+_, _-_, _≤_, _<_}
 use native.Mathlib.Omega.{arith}
-use native.Mathlib.Numerals.{add-one, add-two, add-three}
-use mathlib.Core.Path.{_≡_, refl, sym, ap, _∙_, subst}
-use mathlib.Core.Bool.{true, false}
-use mathlib.Core.List.{List, [], _∷_, _++_}
-use borrow.Author.Tests.{lt-ltb, le-ltb, lt-leb, le-leb, eq-eqb, ne-eqb}
-use lib.Dec.{eqb, ltb, leb}
+use native.Mathlib.Numerals.{add-one}
+use mathlib.Core.Path.{_≡_, refl, _∙_}
+use mathlib.Core.List.{List, [], _∷_}
+use borrow.Author.Tests.{lt-ltb, le-ltb, lt-leb, le-leb, ne-eqb}
 use lib.ListN.{length, getD, drop}
 use lib.Seq.{drop-cons, drop-length}
 use Rattle.limits.specs.Limits.{fewest-tags, most-tags, most-rules, longest-pattern}
-use Rattle.answers.specs.Outcome.{Outcome, result, refused, nothing, byte}
-use Rattle.cascades.specs.Rule.{Rule, Cascade}
+use Rattle.answers.specs.Outcome.{result, refused, nothing, byte}
 use Rattle.books.specs.Read.{Stage, opening, size, command, place, new-tag, pattern-tag, ended, closing, opened, longer, step, finish, readFrom, read}
 use Rattle.books.specs.Arrays.{Arrays, Shaped, ruleAt, rulesDown, cascadeOf}
 use Rattle.books.specs.Resume.{readCommands, faulted}

@@ -1,21 +1,21 @@
 -- What the arrays hold after a reading: the book's rules, or its refusal.
-use Prim.Native.Nat.{ℕ, suc, _≤_, _<_}
+use Prim.Native.Nat.{ℕ, suc, _<_}
 use native.Mathlib.Decide.{ℕ-discrete}
 use native.Mathlib.Omega.{arith}
-use mathlib.Core.Path.{_≡_, sym, ap, _∙_, subst}
+use mathlib.Core.Path.{_≡_, _∙_, subst}
 use mathlib.Core.List.{List, reverse-reverse}
 use lib.ListN.{length, length-reverse}
-use Rattle.limits.specs.Limits.{most-rules, longest-pattern}
-use Rattle.answers.specs.Outcome.{Outcome, result}
+use Rattle.limits.specs.Limits.{longest-pattern}
+use Rattle.answers.specs.Outcome.{result}
 use Rattle.answers.specs.Answer.{refusal}
 use Rattle.answers.specs.declared.Refusal.{Refusal}
 use Rattle.cascades.specs.Rule.{ValidRule, ValidRules}
 use Rattle.books.specs.Read.{read}
-use Rattle.books.specs.Arrays.{Arrays, Shaped, ruleAt, rulesDown, rulesOf, cascadeOf, RulesHeld}
+use Rattle.books.specs.Arrays.{Arrays, ruleAt, rulesDown, rulesOf, cascadeOf, RulesHeld}
 use Rattle.books.specs.Resume.{Whole}
 use Rattle.books.specs.declared.BookAnswer.{BookAnswer}
 use Rattle.books.specs.declared.BookAnswer.the-variants.{Book, Refused}
-use Rattle.books.proofs.Arrays.{down-length, pattern-long}
+use Rattle.books.proofs.Arrays.{down-length}
 use Rattle.books.proofs.Encode.{reads-exactly, valid-reverse}
 
 down-valid : (l k : ℕ) (a : Arrays) (m : ℕ) → ValidRules l k (rulesDown a m) → (i : ℕ) → i < m → ValidRule l k (ruleAt a i)
@@ -27,10 +27,6 @@ down-valid l k a (suc m) h i n = at (ℕ-discrete i m) (down-valid l k a m (h .1
 
 pub rules-long : (a : Arrays) (m : ℕ) → length (rulesOf a m) ≡ m
 rules-long a m = length-reverse (rulesDown a m) ∙ down-length a m
-
--- a rule's place is in its pattern
-pub held-place : {k m : ℕ} {a : Arrays} → RulesHeld k m a → (i : ℕ) → i < m → (ruleAt a i .place < length (ruleAt a i .pattern))
-held-place h i l = h .valid i l .place-inside
 
 module _ (bytes : List ℕ) (a : Arrays) (r : BookAnswer) (w : Whole bytes a r) where
   pub was-refused : (x : Refusal) → r ≡ Refused x → read bytes ≡ refusal x

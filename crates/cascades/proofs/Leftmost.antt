@@ -2,14 +2,14 @@
 use Prim.Native.Nat.{ℕ, _+_, _<_}
 use native.Mathlib.Omega.{arith}
 use mathlib.Core.Path.{_≡_, refl, sym, ap, _∙_, subst}
-use mathlib.Core.Logic.{_⊎_, inl, inr, _↔_}
+use mathlib.Core.Logic.{inl, inr, _↔_}
 use mathlib.Core.Bool.{Bool, true, false}
 use mathlib.Core.List.{List, [], _∷_, _++_, append-nil, append-cancel-left, append-cancel-right}
 use lib.ListN.{length, drop, length-append}
 use Rattle.words.specs.Word.{prefix, Prefix}
-use Rattle.words.proofs.Word.{prefix-split, prefix-append, prefix-other}
+use Rattle.words.proofs.Word.{prefix-split, prefix-other}
 use Rattle.cascades.specs.Rewrite.{rewrite}
-use Rattle.cascades.specs.Leftmost.{OccursAt, Occurs, Leftmost, Behavior}
+use Rattle.cascades.specs.Leftmost.{OccursAt, Occurs, Behavior}
 
 -- one tag in front of a word in which u does not begin
 module _ (u : List ℕ) (a : ℕ) (w : List ℕ) (none : prefix u (a ∷ w) ≡ false) where

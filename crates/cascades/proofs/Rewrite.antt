@@ -1,17 +1,15 @@
 -- `rewrite` place by place, for a search that goes through a sentence from the front; and cascades one rule at a time.
-use Prim.Native.Nat.{ℕ, zero, suc, _+_, _≤_, _<_}
+use Prim.Native.Nat.{ℕ, suc, _+_, _≤_, _<_}
 use native.Mathlib.Omega.{arith}
-use native.Mathlib.Nat.{add-zero}
 use native.Mathlib.Numerals.{add-one}
 use mathlib.Core.Path.{_≡_, refl, sym, ap, _∙_, subst}
 use mathlib.Core.Bool.{Bool, true, false}
-use mathlib.Core.List.{List, [], _∷_, _++_, append-assoc, append-nil}
-use borrow.Author.Tests.{eq-eqb, ne-eqb}
+use mathlib.Core.List.{List, [], _∷_, _++_, append-assoc}
 use lib.Dec.{eqb}
 use lib.ListN.{length, drop, take, getD, set, length-drop, length-set, length-append, take-append-drop}
 use lib.Seq.{drop-cons, drop-length, take-suc, length-take-le, set-append-left}
 use Rattle.words.specs.Word.{prefix}
-use Rattle.words.proofs.Word.{prefix-split}
+use Rattle.words.proofs.Word.{prefix-split, prefix-next, prefix-stops}
 use Rattle.cascades.specs.Rule.{Rule, replaced}
 use Rattle.cascades.specs.Rewrite.{rewrite, apply, applyAll}
 
@@ -26,21 +24,14 @@ prefix-short (a ∷ u) (b ∷ w) h = test (eqb a b) (prefix-short u w (omega ari
     test true e = e
     test false e = refl
 
-same-cons : (a b : ℕ) (u w : List ℕ) → a ≡ b → prefix (a ∷ u) (b ∷ w) ≡ prefix u w
-same-cons a b u w e = cc (eq-eqb a b e)
-
-other-cons : (a b : ℕ) (u w : List ℕ) → (a ≡ b → ⊥) → prefix (a ∷ u) (b ∷ w) ≡ false
-other-cons a b u w e = cc (ne-eqb a b e)
-
 module _ (u s : List ℕ) (i j : ℕ) (h : j < length u) (k : j + i < length s) where
   pub same-next : getD s (j + i) 0 ≡ getD u j 0 → prefix (drop j u) (drop (j + i) s) ≡ prefix (drop (j + 1) u) (drop (j + 1 + i) s)
   same-next e =
-      let n : suc (j + i) ≡ j + 1 + i = omega arith in
-      cc (drop-cons u j 0 h, drop-cons s (j + i) 0 k, add-one j, same-cons (getD u j 0) (getD s (j + i) 0) (drop (suc j) u) (drop (suc (j + i)) s) (sym e))
+      let n : j + i + 1 ≡ j + 1 + i = omega arith in
+      prefix-next u s j (j + i) h k (sym e) ∙ ap (λ (m : ℕ). prefix (drop (j + 1) u) (drop m s)) n
 
   pub other-next : (getD s (j + i) 0 ≡ getD u j 0 → ⊥) → prefix (drop j u) (drop (j + i) s) ≡ false
-  other-next e =
-      cc (drop-cons u j 0 h, drop-cons s (j + i) 0 k, other-cons (getD u j 0) (getD s (j + i) 0) (drop (suc j) u) (drop (suc (j + i)) s) (λ q. e (sym q)))
+  other-next e = prefix-stops u s j (j + i) h k (λ q. e (sym q))
 
 -- all tags passed
 pub all-same : (u s : List ℕ) (i j : ℕ) → j ≡ length u → true ≡ prefix (drop j u) (drop (j + i) s)
@@ -51,6 +42,14 @@ pub first-other : (u s : List ℕ) (i : ℕ) → 0 < length u → i < length s �
 first-other u s i h k e =
     let n : 0 + i ≡ i = omega arith in
     subst (λ (m : ℕ). prefix u (drop m s) ≡ false) n (other-next u s i 0 h (omega arith) (λ q. e (subst (λ (m : ℕ). getD s m 0 ≡ getD u 0 0) n q)))
+
+-- a word shorter than u is unchanged
+pub rewrite-short : (u v w : List ℕ) → length w < length u → rewrite u v w ≡ w
+rewrite-short u v [] h = refl
+rewrite-short u v (a ∷ w) h =
+    let p : prefix u (a ∷ w) ≡ false = prefix-short u (a ∷ w) h in
+    let r : rewrite u v w ≡ w = rewrite-short u v w (omega arith) in
+    cc
 
 -- ---- the search
 
@@ -73,11 +72,7 @@ module _ (u v s : List ℕ) (i : ℕ) (f : From u v s i) where
       )
 
   pub search-none : i ≤ length s → length s < i + length u → rewrite u v s ≡ s
-  search-none b h = f ∙ ap (λ (x : List ℕ). take i s ++ x) (short (drop i s) (omega (arith, length-drop i s))) ∙ take-append-drop i s
-    where
-      short : (w : List ℕ) → length w < length u → rewrite u v w ≡ w
-      short [] h = refl
-      short (a ∷ w) h = let p : prefix u (a ∷ w) ≡ false = prefix-short u (a ∷ w) h in let r : rewrite u v w ≡ w = short w (omega arith) in cc
+  search-none b h = f ∙ ap (λ (x : List ℕ). take i s ++ x) (rewrite-short u v (drop i s) (omega (arith, length-drop i s))) ∙ take-append-drop i s
 
 -- a tag written in the middle part
 set-middle : (x u y : List ℕ) (p t : ℕ) → p < length u → set (x ++ (u ++ y)) (length x + p) t ≡ x ++ (set u p t ++ y)

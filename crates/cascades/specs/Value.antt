@@ -1,5 +1,5 @@
 -- A rule as one value of the code.
-use Prim.Native.Nat.{ℕ, _≤_}
+use Prim.Native.Nat.{_≤_}
 use mathlib.Core.Path.{_≡_}
 use lib.ListN.{length, take}
 use Rattle.limits.specs.Limits.{longest-pattern}

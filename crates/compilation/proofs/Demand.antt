@@ -1,7 +1,7 @@
 -- Demand 3, for every two books, ceilings and slice lengths. `compileAnswer` is what the call compile answers.
 use Prim.Native.Nat.{ℕ, _≤_, _<_}
 use native.Mathlib.Omega.{arith}
-use mathlib.Core.Path.{_≡_, refl, sym, ap, _∙_, subst}
+use mathlib.Core.Path.{_≡_, sym, _∙_, subst}
 use mathlib.Core.Logic.{_↔_}
 use mathlib.Core.List.{List}
 use borrow.Author.Tests.{le-leb, lt-leb}
@@ -17,7 +17,7 @@ use Rattle.tables.specs.Bytes.{encode}
 use Rattle.compilation.specs.Compile.{fitting, built, compileAnswer}
 use Rattle.compilation.specs.Demand.{PartNeedsMore, Shortest, Alike, Premises, SmallestTable, Compiled, Named}
 use Rattle.compilation.proofs.Answer.{Told, fits, exceeds, told, Tested, names-nothing, names-byte, goes-on, test, premises-answer}
-use Rattle.compilation.proofs.Parts.{needs-count, exceeds-shortest, shortest-exceeds, bytes-smallest, whole-few, told-named, told-exceeds, encode-alike, Made, some-made, made}
+use Rattle.compilation.proofs.Parts.{needs-count, exceeds-shortest, shortest-exceeds, bytes-smallest, whole-few, told-named, told-exceeds, encode-alike, some-made, made}
 
 module _ (book : List ℕ) (n work room : ℕ) where
   -- "A compiled table does what its book does on every sentence of every length; no sequential transducer that does so has fewer

@@ -1,22 +1,21 @@
 -- Demand 2: "Every sentence not refused becomes what the published definition makes of it, through the book or through its table".
 -- `bookRun` and `tableRun` are what the two runs answer and write.
-use Prim.Native.Nat.{ℕ, _<_}
+use Prim.Native.Nat.{ℕ}
 use native.Mathlib.Omega.{arith}
-use mathlib.Core.Path.{_≡_, refl, sym, ap, _∙_, subst}
+use mathlib.Core.Path.{_≡_, refl, sym, ap, _∙_}
 use mathlib.Core.Logic.{_↔_}
 use mathlib.Core.List.{List}
 use Rattle.words.specs.Word.{Below}
 use Rattle.answers.specs.Outcome.{Outcome, result, refused, andThen}
-use Rattle.sentences.specs.Run.{run, Accepted}
-use Rattle.sentences.proofs.Laws.{run-accepts, accepted-run, run-same}
-use Rattle.cascades.specs.Rule.{Cascade}
+use Rattle.sentences.specs.Run.{run}
+use Rattle.sentences.proofs.Run.{run-accepts, accepted-run, run-same}
 use Rattle.cascades.specs.Rewrite.{behavior}
 use Rattle.books.specs.Read.{read}
 use Rattle.books.proofs.Encode.{reads-exactly}
 use Rattle.tagger.specs.Run.{bookRun}
 use Rattle.transducers.specs.Transducer.{puts}
 use Rattle.transducers.specs.Table.{shape}
-use Rattle.tables.specs.Decode.{Decoded, decode}
+use Rattle.tables.specs.Decode.{decode}
 use Rattle.tables.specs.Run.{tableRun}
 use Rattle.tables.proofs.Theorem.{decoded}
 use Rattle.compilation.specs.Compile.{compileAnswer}

@@ -47,3 +47,8 @@ built n room c = andThen (compileCascade n c) (λ t. fitting room (encode (c .ta
 
 abbrev pub compileAnswer : List ℕ → ℕ → ℕ → ℕ → Outcome (List ℕ)
 compileAnswer book n work room = andThen (tested book n work) (built n room)
+
+-- the number of the bytes, which is what the call answers
+abbrev pub longOf : Outcome (List ℕ) → Outcome ℕ
+longOf (result bytes) = result (length bytes)
+longOf (refused n p) = refused n p

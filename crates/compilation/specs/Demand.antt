@@ -12,7 +12,7 @@ use Rattle.cascades.specs.Rewrite.{behavior}
 use Rattle.books.specs.Read.{read}
 use Rattle.transducers.specs.Transducer.{puts, Transducer, turns}
 use Rattle.transducers.specs.Table.{Table, shape}
-use Rattle.transducers.specs.Numbered.{Numbered}
+use Rattle.transducers.specs.Numbered.{AsReached}
 use Rattle.tables.specs.Bytes.{number}
 use Rattle.tables.specs.Decode.{Decoded, decode}
 use Rattle.compilation.specs.Compile.{entries}
@@ -57,7 +57,7 @@ pub record SmallestTable (c : Cascade) (bytes : List ℕ) : Type 0 where
   pub does : (w : List ℕ) → Below (c .tags) w → puts (shape table) 0 w ≡ behavior c w
   pub smallest : (M : Transducer (c .tags)) → Does c M → length table ≤ M .shape .count
   pub early : (q : ℕ) → q < length table → (z : List ℕ) → ((x : List ℕ) → Below (c .tags) x → Prefix z (puts (shape table) q x)) → z ≡ []
-  pub numbered : Numbered (c .tags) (shape table)
+  pub numbered : AsReached (c .tags) (shape table)
 
 -- the bytes are the smallest table of the book
 pub record Compiled (book : List ℕ) (n work : ℕ) (bytes : List ℕ) : Type 0 where

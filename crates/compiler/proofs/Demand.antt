@@ -2,7 +2,7 @@
 -- bytes in the output slice.
 use Prim.Native.Nat.{ℕ, _≤_, _<_}
 use native.Mathlib.Omega.{arith}
-use mathlib.Core.Path.{_≡_, refl, sym, ap, _∙_, subst}
+use mathlib.Core.Path.{_≡_, refl, sym, ap, _∙_}
 use mathlib.Core.Logic.{_↔_}
 use mathlib.Core.List.{List, _++_}
 use lib.ListN.{length, take, drop}
@@ -20,9 +20,10 @@ use Rattle.compilation.specs.Compile.{compileAnswer}
 use Rattle.compilation.specs.Demand.{PartNeedsMore, Shortest, Alike, Premises, SmallestTable, Compiled, Named}
 use Rattle.compilation.proofs.Demand as demand
 use Rattle.compilation.proofs.Runs as runs
-use Rattle.compiler.specs.Answer.{compileOutcome, longOf}
-use Rattle.compiler.specs.declared.CompileAnswer.{CompileAnswer}
-use Rattle.compiler.specs.declared.CompileAnswer.the-variants.{Table, Refused}
+use Rattle.answers.specs.Answer.{compileOutcome}
+use Rattle.compilation.specs.Compile.{longOf}
+use Rattle.answers.specs.declared.CompileAnswer.{CompileAnswer}
+use Rattle.answers.specs.declared.CompileAnswer.the-variants.{Table, Refused}
 
 -- what the contract says of a call's answer and output slice
 pub record Call (book : List ℕ) (n : ℕ) (work before after : List ℕ) (answer : CompileAnswer) : Type 0 where

@@ -28,9 +28,12 @@ use Rattle.compilation.specs.Compile.{entries, roomed, tested, built, compileAn
 use Rattle.workspace.specs.declared.Grid.{Grid}
 use Rattle.workspace.specs.Cells.{ix, at, Kept, In-rows}
 use Rattle.workspace.proofs.Places.{ix-below}
-use Rattle.compiler.specs.Answer.{compileOutcome, longOf, worked}
-use Rattle.compiler.specs.Rules.{Gave, Readable, Compilable, Ended}
-use Rattle.compiler.specs.declared.CompileAnswer.{CompileAnswer}
+use Rattle.answers.specs.Answer.{compileOutcome}
+use Rattle.compilation.specs.Compile.{longOf}
+use Rattle.compiler.specs.Answer.{worked}
+use Rattle.builder.specs.Rules.{Gave, Readable, Compilable}
+use Rattle.compiler.specs.Ended.{Ended}
+use Rattle.answers.specs.declared.CompileAnswer.{CompileAnswer}
 
 -- ---- the numbers
 

@@ -1,3 +1,3 @@
 -- The compile call.
 pub mod Answer
-pub mod Rules
+pub mod Ended

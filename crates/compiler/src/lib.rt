@@ -1,4 +1,5 @@
-// The compile call: the phases for each rule of a book, and the bytes of the table.
+// The compile call: a book is read, the work slice laid out, the table built, and the work slice wiped.
+use answers::CompileAnswer;
 use answers::Refusal;
 use books::BookAnswer;
 use books::HEAD;
@@ -11,24 +12,16 @@ use limits::STATES;
 use words::wide;
 use workspace::Grid;
 ghost use mathlib.Core.Path.{_≡_};
-ghost use Prim.Native.Nat.{_≤_, _<_};
+ghost use Prim.Native.Nat.{_≤_};
 ghost use mathlib.Core.List.{_++_};
 ghost use lib.ListN.{length, drop, replicate};
-ghost use Rattle.tables.specs.Bytes.{encode};
-ghost use Rattle.compilation.specs.Compile.{fitting};
-ghost use Rattle.workspace.specs.Holds.{Ready, tableAt};
+ghost use Rattle.answers.specs.Answer.{compileOutcome};
 ghost use Rattle.sentences.specs.Run.{written};
 ghost use Rattle.books.specs.Arrays.{arrays, cascadeOf};
-ghost use Rattle.compilation.specs.Compile.{roomed, tested, built, compileAnswer};
-ghost use Rattle.workspace.specs.Cells.{Kept, In-rows};
-ghost use Rattle.compiler.specs.Answer.{compileOutcome, longOf, worked};
-ghost use Rattle.compiler.specs.Rules.{Gave, Readable, Compilable, Ended};
-
-// The number of bytes of the table, or the refusal.
-pub enum CompileAnswer {
-    Table(usize),
-    Refused(Refusal),
-}
+ghost use Rattle.compilation.specs.Compile.{roomed, tested, compileAnswer, longOf};
+ghost use Rattle.builder.specs.Rules.{Readable};
+ghost use Rattle.compiler.specs.Answer.{worked};
+ghost use Rattle.compiler.specs.Ended.{Ended};
 
 // The first n entries become zero.
 fn wipe(work: &mut [u16], n: usize)
@@ -40,53 +33,6 @@ fn wipe(work: &mut [u16], n: usize)
         work[i] = 0;
         i += 1;
     }
-}
-
-// The bytes of the table in the first n rows, or 11.
-fn finish(work: &[u16], g: Grid, n: usize, out: &mut [u8]) -> CompileAnswer
-    requires { ⌜ Ready g (now work) 0 n ⌝ }
-    requires { ⌜ (g .tags < 0x100) × (g .depth ≤ 0x100) ⌝ }
-    ensures { λ r. ⌜ Gave (fitting (length (now (out .entry))) (encode (g .tags) (tableAt g (now (work .entry)) 0 n))) (now (out .entry)) (now (out .exit)) r ⌝ }
-{
-    let size = encoder::measure(work, g, 0, n);
-    if out.len() < size {
-        return CompileAnswer::Refused(Refusal::Bare { number: 11 });
-    }
-    let end = encoder::write_table(work, g, 0, n, out);
-    CompileAnswer::Table(end)
-}
-
-// The table of the first m rules of the arrays: its bytes, 10 or 11.
-fn compile_rules(
-    work: &mut [u16],
-    g: Grid,
-    ceiling: usize,
-    m: usize,
-    rows: &[[u8; PATTERN]; RULES],
-    lengths: &[usize; RULES],
-    heads: &[[u8; HEAD]; RULES],
-    out: &mut [u8],
-) -> CompileAnswer
-    requires { ⌜ Compilable g (now work) ceiling m (arrays rows lengths heads) ⌝ }
-    ensures gave { λ r. ⌜ Gave (built ceiling (length (now (out .entry))) (cascadeOf (g .tags) (arrays (rows .entry) (lengths .entry) (heads .entry)) m)) (now (out .entry)) (now (out .exit)) r ⌝ }
-    ensures kept { λ r. ⌜ Kept g (now (work .entry)) (now (work .exit)) (In-rows 0 (g .rows)) ⌝ }
-{
-    identity::write_identity(work, g);
-    let mut n = 1;
-    let mut i = 0;
-    while i < m {
-        let rule = books::rule_at(rows, lengths, heads, i);
-        let count = addition::add_rule(work, g, n, ceiling, rule);
-        if ceiling < count {
-            return CompileAnswer::Refused(Refusal::AtRule {
-                number: 10,
-                rule: i + 1,
-            });
-        }
-        n = count;
-        i += 1;
-    }
-    finish(work, g, n, out)
 }
 
 // The first m rules of the arrays over k tags: the table's bytes, 9, 10 or 11. The work slice is zero again after it.
@@ -112,7 +58,7 @@ fn compile_read(
     if work.len() < entries {
         return CompileAnswer::Refused(Refusal::Bare { number: 9 });
     }
-    let answer = compile_rules(work, g, ceiling, m, rows, lengths, heads, out);
+    let answer = builder::build(work, g, ceiling, m, rows, lengths, heads, out);
     wipe(work, entries);
     answer
 }

@@ -1,5 +1,5 @@
 -- The states of the composition as pairs of states: s is (s / m, s % m).
-use Prim.Native.Nat.{ℕ, suc, _+_, _*_, _/_, _%_, _≤_, _<_}
+use Prim.Native.Nat.{ℕ, _+_, _*_, _/_, _%_, _≤_, _<_}
 use native.Mathlib.Omega.{arith}
 use native.Mathlib.Nat.{mul-le-mul-right, suc-mul, mod-lt, div-lt-iff-lt-mul}
 use mathlib.Core.Path.{_≡_, refl, sym, ap, ap₂, _∙_}
@@ -18,13 +18,13 @@ use Rattle.transducers.proofs.Tabulate.{length-table, agree-table, puts-table, 
 use Rattle.workspace.specs.declared.Grid.{Grid}
 use Rattle.workspace.specs.Entries.{NEXT, OUTPUT, FINAL, MEMBER}
 use Rattle.workspace.specs.Cells.{at, word, Inner, Kept, Entry, In-rows, Cell, Got, Put, Written}
-use Rattle.workspace.specs.Holds.{Roomy, Holds, tableAt, held, standing}
+use Rattle.workspace.specs.Holds.{Roomy, Holds, tableAt, shapeAt, standing}
 use Rattle.workspace.proofs.Regions.{kept-wider, sized-kept}
 use Rattle.workspace.proofs.Words.{word-length, word-kept, written-more, written-is}
 use Rattle.workspace.proofs.Holds.{holds-kept, length-at, table-at, roomy-held, holds-table}
-use Rattle.worklist.specs.Worklist.{memberOf, List-notes, Slots, Worklist, Grown, Entered, Place}
+use Rattle.worklist.specs.Worklist.{memberOf, List-notes, Slots, Worklist, Grown, Entered, Member}
 use Rattle.worklist.proofs.Marks.{grown-then, grown-wider, grown-by}
-use Rattle.compose.specs.Runs.{Runs, Ran}
+use Rattle.compose.specs.Runs.{Runs, Arrived}
 use Rattle.compose.specs.Pairs.{Step-notes, Row-notes, Step-paired, State}
 use Rattle.compose.specs.Composed.{Composable, Composed}
 use Rattle.compose.proofs.Cover.{Covers, covers-puts, covers-sound, covers-held}
@@ -148,7 +148,7 @@ module _ (g : Grid) (W : List ℕ) (first n second m base : ℕ) (ok : Composabl
       }
 
   module _ (i s a : ℕ) (hi : i < n * m) (h : s < n * m) (ha : a < g .tags) (X : List ℕ) (to : ℕ)
-      (ran : Ran g W X second m (s % m) (first + s / m) a OUTPUT (base + i) a OUTPUT [] to) where
+      (ran : Arrived g W X second m (s % m) (first + s / m) a OUTPUT (base + i) a OUTPUT [] to) where
     to-is : to ≡ walk (standing g W second m) (s % m) (standing g W first n .output (s / m) a)
     to-is = ran .ends ∙ ap (walk (standing g W second m) (s % m)) (ok .first-holds .states (s / m) (in-first s h) .steps a ha .output-is)
 
@@ -207,7 +207,7 @@ module _ (g : Grid) (W : List ℕ) (first n second m base : ℕ) (ok : Composabl
 
         -- the pair of the next states has got a state
         module _ (Y : List ℕ) (more : ℕ) (entered : Entered g X Y base (n * m) len (next * m + to) more) (state : ℕ)
-            (placed : Place g Y base more (next * m + to) state) where
+            (placed : Member g Y base more (next * m + to) state) where
           enter-grown : Grown (Step-notes g base (n * m) i a) g X Y base (n * m) len more
           enter-grown =
               grown-wider g base (n * m) (Step-notes g base (n * m) i a) (List-notes g base (n * m)) X Y len more (entered .grown) (λ r c e p. inr p)
@@ -247,7 +247,7 @@ module _ (g : Grid) (W : List ℕ) (first n second m base : ℕ) (ok : Composabl
               size = p .kept .same (base + i) a OUTPUT (omega arith) (omega (arith, slots .deep)) (λ q. omega (arith, q .2)) ∙ size-Y
 
   module _ (i s : ℕ) (hi : i < n * m) (h : s < n * m) (X : List ℕ) (to : ℕ)
-      (ran : Ran g W X second m (s % m) (first + s / m) (g .tags) FINAL (base + i) (g .tags) FINAL [] to) where
+      (ran : Arrived g W X second m (s % m) (first + s / m) (g .tags) FINAL (base + i) (g .tags) FINAL [] to) where
     w : List ℕ
     w = standing g W first n .final (s / m)
 
@@ -368,7 +368,7 @@ module _ (g : Grid) (W : List ℕ) (first n second m base : ℕ) (ok : Composabl
     S = product (standing g W first n) (standing g W second m)
 
     abbrev T : Shape
-    T = held g X base len
+    T = shapeAt g X base len
 
     state : (q : ℕ) → q < len → State g X base len q (memberOf g X base q) S
     state q h = m' .states q (omega arith)
@@ -401,18 +401,26 @@ module _ (g : Grid) (W : List ℕ) (first n second m base : ℕ) (ok : Composabl
           finals = λ q h. omega (arith, ap length (covers .finals q h), roomy-product .finals (memberOf g X base q) (low q h));
         }
 
-    pub composed : Composed g X base len (tableAt g W first n) (tableAt g W second m)
+    pub composed : Composed g W X first n second m base len
     composed =
         record {
-          table = table (g .tags) T;
-          long = length-table (g .tags) T;
-          few = omega (arith, m' .list .low, count-product);
-          holds =
-              holds-table g X base T (omega (arith, m' .list .low, ok .above, ok .second-holds .room)) (covers .inside) roomy
-              (λ q h. record { steps = λ a ha. record { next-is = refl; output-is = refl }; final-is = refl });
-          doing = λ d e f h a b.
-              doing-table (g .tags) T T-sound (d + e) (λ w. h (f w)) (covers-held (g .tags) S T (memberOf g X base) covers (d + e) (held-product d e f h a b))
-              (λ x hx. covers-puts (g .tags) S T (memberOf g X base) covers x hx 0 (m' .list .some) ∙ ap (λ (s : ℕ). puts S s x) (m' .list .start) ∙ does-product d e f h a b x hx);
+          few = m' .list .low;
+          kept = m' .kept;
+          stands = λ d e f h a b.
+              record {
+                made =
+                    record {
+                      table = table (g .tags) T;
+                      long = length-table (g .tags) T;
+                      doing =
+                          doing-table (g .tags) T T-sound (d + e) (λ w. h (f w)) (covers-held (g .tags) S T (memberOf g X base) covers (d + e) (held-product d e f h a b))
+                          (λ x hx. covers-puts (g .tags) S T (memberOf g X base) covers x hx 0 (m' .list .some) ∙ ap (λ (s : ℕ). puts S s x) (m' .list .start) ∙ does-product d e f h a b x hx);
+                      so = tt;
+                    };
+                holds =
+                    holds-table g X base T (omega (arith, m' .list .low, ok .above, ok .second-holds .room)) (covers .inside) roomy
+                    (λ q h. record { steps = λ a ha. record { next-is = refl; output-is = refl }; final-is = refl });
+              };
         }
       where
         held-product : (d e : ℕ) (f h : List ℕ → List ℕ) → Doing (g .tags) d f (tableAt g W first n) → Doing (g .tags) e h (tableAt g W second m) → Held (d + e) S

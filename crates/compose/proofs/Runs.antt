@@ -17,7 +17,7 @@ use Rattle.workspace.specs.Holds.{StepAt, Holds, tableAt, standing}
 use Rattle.workspace.proofs.Regions.{kept-none, kept-then, sized-kept}
 use Rattle.workspace.proofs.Words.{word-length, word-kept, tag-kept}
 use Rattle.workspace.proofs.Holds.{holds-kept, length-at, table-at}
-use Rattle.compose.specs.Runs.{Runs, Ran}
+use Rattle.compose.specs.Runs.{Runs, Arrived}
 
 -- i tags were read, and the state was come to
 pub record Running (g : Grid) (W X : List ℕ) (base m q r c s r2 c2 s2 i state : ℕ) : Type 0 where
@@ -141,7 +141,7 @@ module _ (g : Grid) (W : List ℕ) (base m q r c s r2 c2 s2 : ℕ) (ok : Runs g 
         next-at = next-is ∙ ap (R .next state) (read .is)
 
   pub running-end : (X : List ℕ) (i state : ℕ) → Running g W X base m q r c s r2 c2 s2 i state → at g W r c s ≤ i
-      → Ran g W X base m q r c s r2 c2 s2 (word g W r2 c2 s2) state
+      → Arrived g W X base m q r c s r2 c2 s2 (word g W r2 c2 s2) state
   running-end X i state run h =
       record {
         ends = ap (walk R state) (sym none) ∙ run .ends;
@@ -189,7 +189,7 @@ module _ (g : Grid) (W X : List ℕ) (base m q r c s r2 c2 s2 : ℕ) (ok : Runs 
         room = rw (same-table, same-word) (omega (arith, ok .room, clear .size));
       }
 
-  pub ran-clear : (Y : List ℕ) (to : ℕ) → Ran g X Y base m q r c s r2 c2 s2 (word g X r2 c2 s2) to → Ran g W Y base m q r c s r2 c2 s2 [] to
+  pub ran-clear : (Y : List ℕ) (to : ℕ) → Arrived g X Y base m q r c s r2 c2 s2 (word g X r2 c2 s2) to → Arrived g W Y base m q r c s r2 c2 s2 [] to
   ran-clear Y to ran =
       record {
         ends = ran .ends ∙ ap₂ (λ (t : Table) (w : List ℕ). walk (shape t) q w) same-table same-word;

@@ -1,15 +1,13 @@
 -- Two transducers in the work slice, and their composition.
 use Prim.Native.Nat.{ℕ, _+_, _*_, _≤_, _<_}
-use mathlib.Core.Path.{_≡_}
 use mathlib.Core.List.{List}
-use lib.ListN.{length}
-use Rattle.transducers.specs.Table.{Table, shape}
+use Rattle.transducers.specs.Table.{shape}
 use Rattle.transducers.specs.Canonical.{Sound, Held}
-use Rattle.transducers.specs.Tabulate.{Doing}
+use Rattle.transducers.specs.Tabulate.{Doing, Any}
 use Rattle.workspace.specs.declared.Grid.{Grid}
 use Rattle.workspace.specs.Entries.{FINAL}
-use Rattle.workspace.specs.Cells.{Sized, Fits}
-use Rattle.workspace.specs.Holds.{Holds, tableAt}
+use Rattle.workspace.specs.Cells.{Sized, Kept, In-rows, Fits}
+use Rattle.workspace.specs.Holds.{Holds, tableAt, Stands}
 
 -- the first stands in n rows, the second in m rows, the rows from base between them are for the composition, a pair can be noted, and the
 -- cells have room for what both hold
@@ -28,10 +26,9 @@ pub record Composable (g : Grid) (W : List ℕ) (first n second m base : ℕ) : 
   pub above : base + n * m ≤ second
   pub small : n * m < 0x10000
 
--- the rows from base hold a table that does what u makes of what t does, with at most as many states as there are pairs
-pub record Composed (g : Grid) (X : List ℕ) (base count : ℕ) (t u : Table) : Type 0 where
-  pub table : Table
-  pub long : length table ≡ count
-  pub few : count ≤ length t * length u
-  pub holds : Holds g X base table
-  pub doing : (d e : ℕ) (f h : List ℕ → List ℕ) → Doing (g .tags) d f t → Doing (g .tags) e h u → Doing (g .tags) (d + e) (λ w. h (f w)) table
+-- the rows from base hold a table that does what the second makes of what the first does, with at most as many states as there are pairs
+pub record Composed (g : Grid) (W X : List ℕ) (first n second m base count : ℕ) : Type 0 where
+  pub few : count ≤ n * m
+  pub kept : Kept g W X (In-rows base (base + n * m))
+  pub stands : (d e : ℕ) (f h : List ℕ → List ℕ) → Doing (g .tags) d f (tableAt g W first n) → Doing (g .tags) e h (tableAt g W second m)
+      → Stands g X base count (d + e) (λ w. h (f w)) Any

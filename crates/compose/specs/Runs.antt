@@ -23,6 +23,6 @@ pub record Runs (g : Grid) (W : List ℕ) (base m q r c s r2 c2 after : ℕ) : T
   pub room : after + length (outputs (standing g W base m) q (word g W r c s)) < g .depth
 
 -- the state that it comes to, and the word that the cell has then
-pub record Ran (g : Grid) (W X : List ℕ) (base m q r c s r2 c2 s2 : ℕ) (front : List ℕ) (to : ℕ) : Type 0 where
+pub record Arrived (g : Grid) (W X : List ℕ) (base m q r c s r2 c2 s2 : ℕ) (front : List ℕ) (to : ℕ) : Type 0 where
   pub ends : to ≡ walk (standing g W base m) q (word g W r c s)
   pub wrote : Written g W X r2 c2 s2 (front ++ outputs (standing g W base m) q (word g W r c s))

@@ -16,7 +16,7 @@ ghost use Rattle.workspace.specs.Entries.{FINAL};
 ghost use Rattle.workspace.specs.Cells.{at, word, Kept, In-rows, Written};
 ghost use Rattle.workspace.specs.Holds.{tableAt, standing};
 ghost use Rattle.worklist.specs.Worklist.{Worklist};
-ghost use Rattle.compose.specs.Runs.{Runs, Ran};
+ghost use Rattle.compose.specs.Runs.{Runs, Arrived};
 ghost use Rattle.compose.specs.Pairs.{Step-paired, Steps-paired, Row-paired};
 ghost use Rattle.compose.specs.Composed.{Composable, Composed};
 
@@ -36,7 +36,7 @@ fn run_word(
     s2: usize,
 ) -> usize
     requires { ⌜ Runs g (now work) base m q r c s r2 c2 (s2 + at g (now work) r2 c2 s2) ⌝ }
-    ensures { λ to. ⌜ Ran g (now (work .entry)) (now (work .exit)) base m q r c s r2 c2 s2 (word g (now (work .entry)) r2 c2 s2) to ⌝ }
+    ensures { λ to. ⌜ Arrived g (now (work .entry)) (now (work .exit)) base m q r c s r2 c2 s2 (word g (now (work .entry)) r2 c2 s2) to ⌝ }
 {
     let n = get(work, g, r, c, s);
     let mut state = q;
@@ -64,7 +64,7 @@ fn run_into(
     s2: usize,
 ) -> usize
     requires { ⌜ Runs g (now work) base m q r c s r2 c2 s2 ⌝ }
-    ensures { λ to. ⌜ Ran g (now (work .entry)) (now (work .exit)) base m q r c s r2 c2 s2 [] to ⌝ }
+    ensures { λ to. ⌜ Arrived g (now (work .entry)) (now (work .exit)) base m q r c s r2 c2 s2 [] to ⌝ }
 {
     clear(work, g, r2, c2, s2);
     run_word(work, g, base, m, q, r, c, s, r2, c2, s2)
@@ -205,8 +205,7 @@ pub fn compose(
     base: usize,
 ) -> usize
     requires { ⌜ Composable g (now work) first n second m base ⌝ }
-    ensures composed { λ count. ⌜ Composed g (now (work .exit)) base count (tableAt g (now (work .entry)) first n) (tableAt g (now (work .entry)) second m) ⌝ }
-    ensures kept { λ count. ⌜ Kept g (now (work .entry)) (now (work .exit)) (In-rows base (base + n * m)) ⌝ }
+    ensures { λ count. ⌜ Composed g (now (work .entry)) (now (work .exit)) first n second m base count ⌝ }
 {
     let total = n * m;
     worklist::begin(work, g, base, total);

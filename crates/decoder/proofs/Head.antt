@@ -9,7 +9,7 @@ use lib.Dec.{eqb, leb}
 use lib.ListN.{length, drop, getD}
 use Rattle.words.specs.Word.{Below}
 use Rattle.limits.specs.Limits.{fewest-tags, most-tags, most-states}
-use Rattle.answers.specs.Outcome.{Outcome, result, provided}
+use Rattle.answers.specs.Outcome.{Outcome, provided}
 use Rattle.answers.specs.declared.Refusal.{Refusal}
 use Rattle.answers.specs.declared.Refusal.the-variants.{Bare}
 use Rattle.tables.specs.Bytes.{number}

@@ -1,38 +1,32 @@
 -- Balanced steps, as the counts of the index tell them.
-use Prim.Native.Nat.{ℕ, suc, _+_, _*_, _<_, _≤_, _-_, min}
+use Prim.Native.Nat.{ℕ, suc, _+_, _*_, _<_, _≤_, _-_}
 use native.Mathlib.Nat.{zero-mul}
 use native.Mathlib.Omega.{arith}
-use mathlib.Core.Path.{_≡_, refl, sym, ap, subst, _∙_}
+use mathlib.Core.Path.{_≡_, refl, sym, ap, _∙_}
 use mathlib.Core.Bool.{Bool, true, false}
-use mathlib.Core.List.{List, [], _∷_, _++_}
+use mathlib.Core.List.{List, [], _∷_}
 use borrow.Author.Tests.{eq-eqb, ne-eqb}
 use lib.Dec.{eqb}
 use lib.ListN.{length, drop, getD, length-drop, drop-of-length-le}
 use lib.Seq.{drop-drop, drop-cons}
 use Rattle.words.specs.Word.{Below}
-use Rattle.limits.specs.Limits.{most-held}
-use Rattle.answers.specs.Outcome.{Outcome, result}
-use Rattle.transducers.specs.Table.{Step, Row, Table, row, step, no-step, no-row}
+use Rattle.answers.specs.Outcome.{result}
+use Rattle.transducers.specs.Table.{Table, row, step, no-step, no-row}
 use Rattle.tables.specs.Bytes.{joined, rowBytes}
 use Rattle.tables.specs.Decode.{malformed, many, readRow, readTable, decode, ended, rowsBalanced}
-use Rattle.decoder.specs.Index.{countOf, baseOf, TableCells, Part, PartRead, Level, Linked, Decides, Head, RowsRead, Loaded, LoadedIf}
-use Rattle.decoder.specs.declared.Reached.{Reached}
-use Rattle.decoder.specs.declared.Reached.the-variants.{To, Malformed}
+use Rattle.words.specs.Decides.{Decides}
+use Rattle.steps.specs.Entry.{countOf, baseOf}
+use Rattle.steps.specs.Part.{Part, PartRead}
+use Rattle.decoder.specs.Index.{TableEntries, Level, Linked, Head, RowsRead, LoadedIf}
+use Rattle.steps.specs.declared.Reached.{Reached}
+use Rattle.steps.specs.declared.Reached.the-variants.{To, Malformed}
 use Rattle.words.proofs.Word.{below-drop}
 use Rattle.tables.proofs.Parts.{Every, every-at, every-of, GoodStep, GoodRow, many-read, row-read}
-use Rattle.decoder.proofs.Places.{row-inside}
+use Rattle.steps.proofs.Places.{row-inside}
 use Rattle.tables.proofs.Theorem.{Balanced, RowBalanced, rows-balanced, balanced-rows, table-at, decoded}
 
-pub decided-true : (b : Bool) (P : Type 0) → Decides b P → b ≡ true → P
-decided-true true P d e = d
-decided-true false P d e = let z : _≡_ {A = ℕ} 0 1 = cc in absurd (omega arith)
-
-pub decided-false : (b : Bool) (P : Type 0) → Decides b P → b ≡ false → P → ⊥
-decided-false false P d e p = d p
-decided-false true P d e p = let z : _≡_ {A = ℕ} 0 1 = cc in omega arith
-
 -- a table whose states were read, with its index
-module _ (k s : ℕ) (bs ix : List ℕ) (t : Table) (states : length t ≡ s) (good : Every (GoodRow k s) t) (cells : TableCells k s bs ix t) where
+module _ (k s : ℕ) (bs ix : List ℕ) (t : Table) (states : length t ≡ s) (good : Every (GoodRow k s) t) (cells : TableEntries k s bs ix t) where
   row-good : (q : ℕ) → q < s → GoodRow k s (row t q)
   row-good q h = every-at (GoodRow k s) t no-row q good (omega arith)
 
@@ -84,7 +78,7 @@ module _
     (k s : ℕ) (bs ix : List ℕ) (end : ℕ)
     (head : Head bs k s)
     (bytes : Below 0x100 bs)
-    (p : Part (many (readRow k s) rowBytes s) (joined rowBytes) (TableCells k s bs ix) bs 4 end)
+    (p : Part (many (readRow k s) rowBytes s) (joined rowBytes) (TableEntries k s bs ix) bs 4 end)
   where
     rows : (length (p .value) ≡ s) × Every (GoodRow k s) (p .value)
     rows =
@@ -145,7 +139,7 @@ module _
         load-all room e true d =
             let t = p .value in
             let decodes : decode bs ≡ result (record { tags = k; table = t }) =
-            head .left ∙ table-at k s (drop 4 bs) t (p .reads) ends (sym first-held ∙ e) (levels-balanced k s bs ix t (rows .0) (rows .1) (p .holds) d) in
+            head .left ∙ table-at k s (drop 4 bs) t (p .reads) ends (sym first-held ∙ e) (levels-balanced k s bs ix t (rows .0) (rows .1) (p .holds) (d .so refl)) in
             record {
               table = t;
               decodes = decodes;
@@ -156,13 +150,13 @@ module _
         load-all room e false d =
             head .left
             ∙ level-case (eq-eqb _ 0 (sym first-held ∙ e))
-            (not-balanced (rowsBalanced (p .value) (p .value)) (λ b. d (balanced-levels k s bs ix (p .value) (rows .0) (rows .1) (p .holds) b)))
+            (not-balanced (rowsBalanced (p .value) (p .value)) (λ b. d .not refl (balanced-levels k s bs ix (p .value) (rows .0) (rows .1) (p .holds) b)))
 
     pub load-linked : s * (k + 1) ≤ length ix → (q a : ℕ) → q < s → a < k → Linked ix (q * (k + 1)) a
     load-linked room q a h g = linked k s bs ix (p .value) (rows .0) (rows .1) (p .holds) q a h g room
 
 -- what reading the states answers
-module _ (k s : ℕ) (bs ix : List ℕ) (r : Reached) (head : Head bs k s) (p : PartRead (many (readRow k s) rowBytes s) (joined rowBytes) (TableCells k s bs ix) bs 4 r) where
+module _ (k s : ℕ) (bs ix : List ℕ) (r : Reached) (head : Head bs k s) (p : PartRead (many (readRow k s) rowBytes s) (joined rowBytes) (TableEntries k s bs ix) bs 4 r) where
   pub load-not : r ≡ Malformed → decode bs ≡ malformed
   load-not e =
       let stop : many (readRow k s) rowBytes s (drop 4 bs) ≡ malformed = rw e at p in

@@ -1,5 +1,5 @@
 -- Laws that the functions' proofs cite.
-pub mod Places
+pub mod Rows
 pub mod Progress
 pub mod Head
 pub mod Level

@@ -1,18 +1,18 @@
 -- Parts that are read one after the other: how far a loop has come.
-use Prim.Native.Nat.{ℕ, zero, suc, _+_, _*_, _<_, _≤_, _-_}
+use Prim.Native.Nat.{ℕ, suc, _+_, _<_, _≤_, _-_}
 use native.Mathlib.Nat.{zero-add}
 use native.Mathlib.Decide.{decLt}
 use native.Mathlib.Omega.{arith}
-use mathlib.Core.Path.{_≡_, refl, sym, ap, subst, _∙_}
+use mathlib.Core.Path.{_≡_, refl, sym, ap, _∙_}
 use mathlib.Core.List.{List, [], _∷_, _++_, append-assoc, append-nil}
 use lib.ListN.{length, drop, getD, length-append, List·getD-append}
 use lib.Seq.{drop-drop, getD-at}
 use Rattle.answers.specs.Outcome.{Outcome, result, refused, andThen}
 use Rattle.tables.specs.Bytes.{joined}
 use Rattle.tables.specs.Decode.{malformed, many}
-use Rattle.decoder.specs.Index.{Part, PartRead}
-use Rattle.decoder.specs.declared.Reached.{Reached}
-use Rattle.decoder.specs.declared.Reached.the-variants.{To, Malformed}
+use Rattle.steps.specs.Part.{Part, PartRead}
+use Rattle.steps.specs.declared.Reached.{Reached}
+use Rattle.steps.specs.declared.Reached.the-variants.{To, Malformed}
 
 abbrev pub prepend : {A : Type 0} → List A → Outcome (List A) → Outcome (List A)
 prepend l o = andThen o (λ vs. result (l ++ vs))

@@ -1,2 +1,2 @@
 -- Laws of written bytes.
-pub mod Laws
+pub mod Encoding

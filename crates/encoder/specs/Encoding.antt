@@ -12,7 +12,7 @@ use Rattle.workspace.specs.Entries.{NEXT, OUTPUT, FINAL}
 use Rattle.workspace.specs.Cells.{at, word, Sized, Inner}
 
 -- the bytes have been written from a place on
-pub record Wrote (before after : List ℕ) (from : ℕ) (bytes : List ℕ) (to : ℕ) : Type 0 where
+pub record BytesWritten (before after : List ℕ) (from : ℕ) (bytes : List ℕ) (to : ℕ) : Type 0 where
   pub is : after ≡ sets before from bytes
   pub end : to ≡ from + length bytes
 

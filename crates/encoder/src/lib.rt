@@ -10,7 +10,7 @@ ghost use Prim.Native.Nat.{_+_, _*_, _≤_, _<_};
 ghost use lib.ListN.{length};
 ghost use Rattle.tables.specs.Bytes.{tagged, joined, stepBytes, rowBytes, encode};
 ghost use Rattle.workspace.specs.Cells.{word, Sized};
-ghost use Rattle.encoder.specs.Encoding.{Wrote, stepIn, stepsIn, rowIn, rowsIn, Bytes, Encodable, Writable, Measured};
+ghost use Rattle.encoder.specs.Encoding.{BytesWritten, stepIn, stepsIn, rowIn, rowsIn, Bytes, Encodable, Writable, Measured};
 
 fn byte(n: usize) -> u8
     requires { ⌜ n < 0x100 ⌝ }
@@ -33,7 +33,7 @@ fn write_word(
     requires { ⌜ Sized g (now work) ⌝ }
     requires { ⌜ Bytes g (now work) r c s ⌝ }
     requires { ⌜ from + length (tagged command (word g (now work) r c s)) ≤ length (now out) ⌝ }
-    ensures { λ to. ⌜ Wrote (now (out .entry)) (now (out .exit)) from (tagged command (word g (now (work .entry)) r c s)) to ⌝ }
+    ensures { λ to. ⌜ BytesWritten (now (out .entry)) (now (out .exit)) from (tagged command (word g (now (work .entry)) r c s)) to ⌝ }
 {
     let n = get(work, g, r, c, s);
     let mut to = from;
@@ -52,7 +52,7 @@ fn write_word(
 fn write_step(work: &[u16], g: Grid, r: usize, a: usize, out: &mut [u8], from: usize) -> usize
     requires { ⌜ Encodable g (now work) r ⌝ }
     requires { ⌜ (a < g .tags) × (from + length (stepBytes (stepIn g (now work) r a)) ≤ length (now out)) ⌝ }
-    ensures { λ to. ⌜ Wrote (now (out .entry)) (now (out .exit)) from (stepBytes (stepIn g (now (work .entry)) r a)) to ⌝ }
+    ensures { λ to. ⌜ BytesWritten (now (out .entry)) (now (out .exit)) from (stepBytes (stepIn g (now (work .entry)) r a)) to ⌝ }
 {
     let next = get(work, g, r, a, NEXT);
     out[from] = 0x33;
@@ -64,7 +64,7 @@ fn write_step(work: &[u16], g: Grid, r: usize, a: usize, out: &mut [u8], from: u
 fn write_steps(work: &[u16], g: Grid, r: usize, out: &mut [u8], from: usize) -> usize
     requires { ⌜ Encodable g (now work) r ⌝ }
     requires { ⌜ from + length (joined stepBytes (stepsIn g (now work) r)) ≤ length (now out) ⌝ }
-    ensures { λ to. ⌜ Wrote (now (out .entry)) (now (out .exit)) from (joined stepBytes (stepsIn g (now (work .entry)) r)) to ⌝ }
+    ensures { λ to. ⌜ BytesWritten (now (out .entry)) (now (out .exit)) from (joined stepBytes (stepsIn g (now (work .entry)) r)) to ⌝ }
 {
     let tags = g.tags;
     let mut to = from;
@@ -80,7 +80,7 @@ fn write_steps(work: &[u16], g: Grid, r: usize, out: &mut [u8], from: usize) -> 
 fn write_row(work: &[u16], g: Grid, r: usize, out: &mut [u8], from: usize) -> usize
     requires { ⌜ Encodable g (now work) r ⌝ }
     requires { ⌜ from + length (rowBytes (rowIn g (now work) r)) ≤ length (now out) ⌝ }
-    ensures { λ to. ⌜ Wrote (now (out .entry)) (now (out .exit)) from (rowBytes (rowIn g (now (work .entry)) r)) to ⌝ }
+    ensures { λ to. ⌜ BytesWritten (now (out .entry)) (now (out .exit)) from (rowBytes (rowIn g (now (work .entry)) r)) to ⌝ }
 {
     let tags = g.tags;
     let n = get(work, g, r, tags, FINAL);
@@ -93,7 +93,7 @@ fn write_row(work: &[u16], g: Grid, r: usize, out: &mut [u8], from: usize) -> us
 fn write_rows(work: &[u16], g: Grid, base: usize, n: usize, out: &mut [u8], from: usize) -> usize
     requires { ⌜ Writable g (now work) base n ⌝ }
     requires { ⌜ from + length (joined rowBytes (rowsIn g (now work) base n)) ≤ length (now out) ⌝ }
-    ensures { λ to. ⌜ Wrote (now (out .entry)) (now (out .exit)) from (joined rowBytes (rowsIn g (now (work .entry)) base n)) to ⌝ }
+    ensures { λ to. ⌜ BytesWritten (now (out .entry)) (now (out .exit)) from (joined rowBytes (rowsIn g (now (work .entry)) base n)) to ⌝ }
 {
     let mut to = from;
     let mut q = 0;
@@ -108,7 +108,7 @@ fn write_rows(work: &[u16], g: Grid, base: usize, n: usize, out: &mut [u8], from
 pub fn write_table(work: &[u16], g: Grid, base: usize, n: usize, out: &mut [u8]) -> usize
     requires { ⌜ Writable g (now work) base n ⌝ }
     requires { ⌜ length (encode (g .tags) (rowsIn g (now work) base n)) ≤ length (now out) ⌝ }
-    ensures { λ to. ⌜ Wrote (now (out .entry)) (now (out .exit)) 0 (encode (g .tags) (rowsIn g (now (work .entry)) base n)) to ⌝ }
+    ensures { λ to. ⌜ BytesWritten (now (out .entry)) (now (out .exit)) 0 (encode (g .tags) (rowsIn g (now (work .entry)) base n)) to ⌝ }
 {
     let tags = g.tags;
     out[0] = 0x30;

@@ -1,17 +1,19 @@
 -- Keys: equivalences that notes beside the classes leave.
-use Prim.Native.Nat.{ℕ, suc, _+_, _≤_, _<_}
+use Prim.Native.Nat.{ℕ, _+_, _≤_, _<_}
 use native.Mathlib.Omega.{arith}
 use mathlib.Core.Path.{_≡_, refl, sym, ap, _∙_, subst}
 use mathlib.Core.Bool.{Bool, true, false}
 use mathlib.Core.List.{List}
+use Rattle.words.specs.Decides.{Decides}
+use Rattle.words.proofs.Decides.{decides-no}
 use Rattle.words.proofs.Word.{below-suc}
 use mathlib.Core.Logic.{_⊎_, inl, inr}
 use Rattle.workspace.specs.declared.Grid.{Grid}
 use Rattle.workspace.specs.Entries.{FINAL, CLASS}
-use Rattle.workspace.specs.Cells.{at, Kept, Spare, Decides}
+use Rattle.workspace.specs.Cells.{at, Kept, Spare}
 use Rattle.workspace.specs.Holds.{Ready, standing}
 use Rattle.workspace.proofs.Views.{same-table, ready-kept}
-use Rattle.merge.specs.Classes.{classOf, Words, Nexts, Key, Part}
+use Rattle.merge.specs.Classes.{classOf, Words, Nexts, Key, Partition}
 
 module _ (g : Grid) (W : List ℕ) (base n : ℕ) where
   pub words-sym : (p q : ℕ) → Words g W base n p q → Words g W base n q p
@@ -45,7 +47,7 @@ module _ (g : Grid) (W : List ℕ) (base n : ℕ) (ok : Ready g W base n) (X : L
   key-back true p q k = rw (same-table g W base n ok X lo hi to kept) at k
   key-back false p q k = λ a ha. sym (class-same (standing g W base n .next p a)) ∙ (rw (same-table g W base n ok X lo hi to kept) at k) a ha ∙ class-same (standing g W base n .next q a)
 
-  pub part-on : Part g W base n → Part g X base n
+  pub part-on : Partition g W base n → Partition g X base n
   part-on s =
       record {
         ready = ready-kept g W base n ok X lo hi to kept;
@@ -62,15 +64,6 @@ all-next P i all here b h = go (below-suc b i (omega arith))
     go : (b < i) ⊎ (b ≡ i) → P b
     go (inl lt) = all b lt
     go (inr e) = subst P (sym e) here
-
-pub decides-is : (b : Bool) (P Q : Type 0) → (P → Q) → (Q → P) → Decides b P → Decides b Q
-decides-is b P Q f h d = record { so = λ e. f (d .so e); not = λ e q. d .not e (h q) }
-
-pub decides-no : (P : Type 0) → (P → ⊥) → Decides false P
-decides-no P never = record { so = λ e. let z : _≡_ {A = ℕ} 0 1 = cc in absurd (omega arith); not = λ e. never }
-
-pub decides-yes : (P : Type 0) → P → Decides true P
-decides-yes P p = record { so = λ e. p; not = λ e. let z : _≡_ {A = ℕ} 0 1 = cc in absurd (omega arith) }
 
 -- the two kinds of key
 module _ (g : Grid) (W : List ℕ) (base n p q : ℕ) where

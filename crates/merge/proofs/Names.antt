@@ -2,7 +2,7 @@
 use Prim.Native.Nat.{ℕ, suc, _+_, _≤_, _<_}
 use native.Mathlib.Omega.{arith}
 use native.Mathlib.Decide.{ℕ-discrete, decLt}
-use mathlib.Core.Path.{_≡_, refl, sym, ap, _∙_, subst}
+use mathlib.Core.Path.{_≡_, sym, ap, _∙_, subst}
 use mathlib.Core.Logic.{_⊎_, inl, inr}
 use mathlib.Core.Bool.{Bool, true, false}
 use mathlib.Core.List.{List}
@@ -14,7 +14,7 @@ use Rattle.workspace.specs.Holds.{Ready}
 use Rattle.workspace.proofs.Regions.{kept-none, kept-then, kept-wider}
 use Rattle.workspace.proofs.Views.{ready-kept}
 use Rattle.merge.specs.declared.Walked.{Walked}
-use Rattle.merge.specs.Classes.{classOf, newOf, linkOf, Key, Part, Name, Gap, Follows, Parted, Found, Placed, Named}
+use Rattle.merge.specs.Classes.{classOf, newOf, linkOf, Key, Partition, Name, Gap, Follows, Parted, Found, Placed, NewName}
 use Rattle.merge.proofs.Keys.{key-refl, key-sym, class-same, key-on, key-back, part-on}
 
 -- ---- the walk over the names of a class
@@ -199,16 +199,16 @@ module _ (g : Grid) (W : List ℕ) (base n : ℕ) (first : Bool) (q : ℕ) (hq :
   deep : 8 ≤ g .depth
   deep = omega (arith, s .part .ready .room)
 
-  named-wider : (X Y : List ℕ) → Named g X Y base q → Kept g X Y (Spare g base (base + n) NEW (LINK + 1))
+  named-wider : (X Y : List ℕ) → NewName g X Y base q → Kept g X Y (Spare g base (base + n) NEW (LINK + 1))
   named-wider X Y nm =
       kept-wider g (Spare g base (base + n) NEW (LINK + 1)) (Spare g (base + q) (base + q + 1) NEW (LINK + 1)) X Y (nm .kept)
       (λ r c e i. (omega (arith, i .0), omega (arith, i .1), i .2, i .3, i .4))
 
-  other-row : (X Y : List ℕ) → Named g X Y base q → (o e : ℕ) → o < q → e < 7 → at g Y (base + o) (g .tags) e ≡ at g X (base + o) (g .tags) e
+  other-row : (X Y : List ℕ) → NewName g X Y base q → (o e : ℕ) → o < q → e < 7 → at g Y (base + o) (g .tags) e ≡ at g X (base + o) (g .tags) e
   other-row X Y nm o e h he = nm .kept .same (base + o) (g .tags) e (omega arith) (omega (arith, deep)) (λ i. omega (arith, i .0))
 
   -- it names its old class
-  pub place-own : (Y : List ℕ) (c : ℕ) → c ≡ classOf g W base q → c ≡ q → Named g W Y base q → Placed g W Y base n first (q + 1)
+  pub place-own : (Y : List ℕ) (c : ℕ) → c ≡ classOf g W base q → c ≡ q → NewName g W Y base q → Placed g W Y base n first (q + 1)
   place-own Y c is own nm =
       let old : classOf g W base q ≡ q = sym is ∙ own in
       parted-next g W base n first q hq s Y (named-wider W Y nm) news (omega (arith, nm .name)) (ap (newOf g Y base) (nm .name))
@@ -252,7 +252,7 @@ module _ (g : Grid) (W : List ℕ) (base n : ℕ) (first : Bool) (q : ℕ) (hq :
         by o name (inr e) = absurd (never (subst (λ (i : ℕ). Name g Y base i) e name))
 
     -- it is told from all names of its class, and follows the last one
-    pub place-miss : (X Y : List ℕ) → w .hit ≡ false → Put g W X (base + w .at) (g .tags) LINK q → Named g X Y base q → Placed g W Y base n first (q + 1)
+    pub place-miss : (X Y : List ℕ) → w .hit ≡ false → Put g W X (base + w .at) (g .tags) LINK q → NewName g X Y base q → Placed g W Y base n first (q + 1)
     place-miss X Y miss p nm =
         parted-next g W base n first q hq s Y wider news (omega (arith, nm .name)) (ap (newOf g Y base) (nm .name))
         (ap (classOf g W base) (nm .name)) (subst (λ (i : ℕ). Key g W base n first i q) (sym (nm .name)) (key-refl g W base n first q))
@@ -313,7 +313,7 @@ module _ (g : Grid) (W : List ℕ) (base n : ℕ) (first : Bool) (q : ℕ) (hq :
                 (other-row X Y nm o 3 h (omega arith) ∙ p .kept .same (base + o) (g .tags) LINK (omega arith) (omega (arith, deep)) (λ i. ne (omega (arith, i .0))))
                 (λ gap here e. not-last o h ne (name-back g W base n first q hq s Y wider news o h name) gap (back q o e))
 
-pub parted-start : (g : Grid) (W : List ℕ) (base n : ℕ) (first : Bool) → Part g W base n → Placed g W W base n first 0
+pub parted-start : (g : Grid) (W : List ℕ) (base n : ℕ) (first : Bool) → Partition g W base n → Placed g W W base n first 0
 parted-start g W base n first s =
     record {
       kept = kept-none g (Spare g base (base + n) NEW (LINK + 1)) W;
@@ -332,7 +332,7 @@ parted-start g W base n first s =
 pub placed-then : (g : Grid) (W X Y : List ℕ) (base n : ℕ) (first : Bool) (i j : ℕ) → Placed g W X base n first i → Placed g X Y base n first j → Placed g W Y base n first j
 placed-then g W X Y base n first i j a b = record { kept = kept-then g (Spare g base (base + n) NEW (LINK + 1)) W X Y (a .kept) (b .kept); parted = b .parted }
 
-pub named-new : (g : Grid) (W X Y : List ℕ) (base q : ℕ) → 8 ≤ g .depth → Put g W X (base + q) (g .tags) NEW q → Put g X Y (base + q) (g .tags) LINK 0 → Named g W Y base q
+pub named-new : (g : Grid) (W X Y : List ℕ) (base q : ℕ) → 8 ≤ g .depth → Put g W X (base + q) (g .tags) NEW q → Put g X Y (base + q) (g .tags) LINK 0 → NewName g W Y base q
 named-new g W X Y base q deep a b =
     record {
       kept =

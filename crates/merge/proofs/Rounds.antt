@@ -23,7 +23,7 @@ use Rattle.workspace.proofs.Words.{tabulate-same}
 use Rattle.workspace.proofs.Holds.{length-at}
 use Rattle.workspace.proofs.Views.{in-table, next-below, same-table, ready-kept}
 use Rattle.workspace.proofs.Falls.{total-falls}
-use Rattle.merge.specs.Classes.{classOf, newOf, Words, Nexts, Key, Part, Parted, Placed, Differs, Taken, Round, Merged}
+use Rattle.merge.specs.Classes.{classOf, newOf, Words, Nexts, Key, Partition, Parted, Placed, Differs, Taken, Round, Merged}
 use Rattle.merge.proofs.Keys.{words-sym, words-trans, key-sym, key-trans, class-same, key-back}
 
 -- ---- the new classes are taken over
@@ -76,7 +76,7 @@ module _ (g : Grid) (W : List ℕ) (base n : ℕ) (ok : Ready g W base n) where
 
 -- ---- a round
 
-module _ (g : Grid) (W : List ℕ) (base n : ℕ) (first : Bool) (s : Part g W base n) (X : List ℕ) (placed : Placed g W X base n first n) (Y : List ℕ) (changed : Bool)
+module _ (g : Grid) (W : List ℕ) (base n : ℕ) (first : Bool) (s : Partition g W base n) (X : List ℕ) (placed : Placed g W X base n first n) (Y : List ℕ) (changed : Bool)
     (taken : Taken g X Y base n n changed) where
   x : Parted g X base n first n
   x = placed .parted
@@ -164,7 +164,7 @@ abbrev pub flag : Bool → ℕ
 flag true = 1
 flag false = 0
 
-module _ (g : Grid) (W X : List ℕ) (base n : ℕ) (s : Part g W base n) where
+module _ (g : Grid) (W X : List ℕ) (base n : ℕ) (s : Partition g W base n) where
   round-table : (first changed : Bool) → Round g W X base n first changed → tableAt g X base n ≡ tableAt g W base n
   round-table first changed r = same-table g W base n (s .ready) X 1 4 (omega arith) (r .kept)
 
@@ -203,7 +203,7 @@ module _ (g : Grid) (W X : List ℕ) (base n : ℕ) (s : Part g W base n) where
       omega (arith, e)
 
 -- classes that rest are those of the definition
-pub merged-done : (g : Grid) (W X : List ℕ) (base n : ℕ) → Ready g W base n → Kept g W X (Spare g base (base + n) CLASS (LINK + 1)) → Part g X base n → Worded g X base n
+pub merged-done : (g : Grid) (W X : List ℕ) (base n : ℕ) → Ready g W base n → Kept g W X (Spare g base (base + n) CLASS (LINK + 1)) → Partition g X base n → Worded g X base n
     → Still g X base n → Merged g W X base n
 merged-done g W X base n ok kept s w still =
     record {

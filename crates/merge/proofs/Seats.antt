@@ -18,7 +18,7 @@ use Rattle.workspace.specs.Holds.{Ready, tableAt, standing}
 use Rattle.workspace.proofs.Regions.{kept-then, kept-wider, spare-put}
 use Rattle.workspace.proofs.Holds.{length-at}
 use Rattle.workspace.proofs.Views.{in-table, final-size, output-size, same-table, ready-kept}
-use Rattle.merge.specs.Classes.{classOf, Part}
+use Rattle.merge.specs.Classes.{classOf, Partition}
 use Rattle.merge.specs.Seats.{headOf, mixed, digest, bucket, Seating, Seated}
 
 pub mixed-next : (f : ℕ → ℕ) (h a : ℕ) → (mixed f h a * 31 + f a) % 0x10000 ≡ mixed f h (a + 1)
@@ -169,7 +169,7 @@ module _ (g : Grid) (base n : ℕ) where
                 rw e (λ z. omega (arith, m, z), omega (arith, p2 .here, m))
 
   -- states that put out the same are seated together
-  pub part-seated : (W X : List ℕ) → Ready g W base n → Early (g .tags) (standing g W base n) → Seated g W X base n n → Part g X base n
+  pub part-seated : (W X : List ℕ) → Ready g W base n → Early (g .tags) (standing g W base n) → Seated g W X base n n → Partition g X base n
   part-seated W X ok early t =
       record {
         ready = s .ready;

@@ -37,7 +37,7 @@ Key g W base n true p q = Words g W base n p q
 Key g W base n false p q = Nexts g W base n p q
 
 -- classes are named by members that are no greater, and hold together what puts out the same
-pub record Part (g : Grid) (W : List ℕ) (base n : ℕ) : Type 0 where
+pub record Partition (g : Grid) (W : List ℕ) (base n : ℕ) : Type 0 where
   pub ready : Ready g W base n
   pub early : Early (g .tags) (standing g W base n)
   pub low : (q : ℕ) → q < n → classOf g W base q ≤ q
@@ -62,7 +62,7 @@ pub record Follows (g : Grid) (W : List ℕ) (base p i : ℕ) : Type 0 where
 
 -- the states below i have new classes
 pub record Parted (g : Grid) (W : List ℕ) (base n : ℕ) (first : Bool) (i : ℕ) : Type 0 where
-  pub part : Part g W base n
+  pub part : Partition g W base n
   pub low : (q : ℕ) → q < i → newOf g W base q ≤ q
   pub name : (q : ℕ) → q < i → Name g W base (newOf g W base q)
   pub same : (q : ℕ) → q < i → classOf g W base (newOf g W base q) ≡ classOf g W base q
@@ -97,7 +97,7 @@ pub record Merged (g : Grid) (W X : List ℕ) (base n : ℕ) : Type 0 where
   pub named : (q : ℕ) → q < n → classOf g X base q ≡ class (classes (tableAt g W base n)) q
 
 -- q names a new class, and no name follows it
-pub record Named (g : Grid) (W X : List ℕ) (base q : ℕ) : Type 0 where
+pub record NewName (g : Grid) (W X : List ℕ) (base q : ℕ) : Type 0 where
   pub kept : Kept g W X (Spare g (base + q) (base + q + 1) NEW (LINK + 1))
   pub name : newOf g X base q ≡ q
   pub last : linkOf g X base q ≡ 0
@@ -109,7 +109,7 @@ pub record Differs (changed : Bool) (c d : ℕ) (r : Bool) : Type 0 where
 -- a round: the classes are split, or rest
 pub record Round (g : Grid) (W X : List ℕ) (base n : ℕ) (first changed : Bool) : Type 0 where
   pub kept : Kept g W X (Spare g base (base + n) CLASS (LINK + 1))
-  pub part : Part g X base n
+  pub part : Partition g X base n
   pub grows : (q : ℕ) → q < n → classOf g W base q ≤ classOf g X base q
   pub within : (q : ℕ) → q < n → classOf g W base (classOf g X base q) ≡ classOf g W base q
   pub alike : (q : ℕ) → q < n → Key g W base n first (classOf g X base q) q

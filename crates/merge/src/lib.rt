@@ -17,11 +17,11 @@ use workspace::same_words;
 ghost use mathlib.Core.Path.{_≡_};
 ghost use Prim.Native.Nat.{ℕ, _+_, _<_};
 ghost use mathlib.Core.Bool.{true, false};
-ghost use Rattle.workspace.specs.Cells.{Decides};
+ghost use Rattle.words.specs.Decides.{Decides};
 ghost use Rattle.workspace.specs.Holds.{Ready, standing};
 ghost use Rattle.transducers.specs.Canonical.{Early};
 ghost use Rattle.merge.specs.Seats.{digest, Seating, Seated};
-ghost use Rattle.merge.specs.Classes.{classOf, Nexts, Key, Part, Parted, Found, Placed, Named, Differs, Taken, Round, Merged};
+ghost use Rattle.merge.specs.Classes.{classOf, Nexts, Key, Partition, Parted, Found, Placed, NewName, Differs, Taken, Round, Merged};
 
 pub struct Walked {
     pub at: usize,
@@ -105,7 +105,7 @@ fn find_name(
 fn name_new(work: &mut [u16], g: Grid, base: usize, n: usize, q: usize)
     requires { ⌜ Ready g (now work) base n ⌝ }
     requires { ⌜ q < n ⌝ }
-    ensures { λ _. ⌜ Named g (now (work .entry)) (now (work .exit)) base q ⌝ }
+    ensures { λ _. ⌜ NewName g (now (work .entry)) (now (work .exit)) base q ⌝ }
 {
     put(work, g, base + q, g.tags, NEW, q);
     put(work, g, base + q, g.tags, LINK, 0);
@@ -133,7 +133,7 @@ fn place(work: &mut [u16], g: Grid, base: usize, n: usize, q: usize, first: bool
 }
 
 fn split(work: &mut [u16], g: Grid, base: usize, n: usize, first: bool)
-    requires { ⌜ Part g (now work) base n ⌝ }
+    requires { ⌜ Partition g (now work) base n ⌝ }
     ensures { λ _. ⌜ Placed g (now (work .entry)) (now (work .exit)) base n first n ⌝ }
 {
     let mut q = 0;
@@ -169,7 +169,7 @@ fn take_over(work: &mut [u16], g: Grid, base: usize, n: usize) -> bool
 }
 
 fn round(work: &mut [u16], g: Grid, base: usize, n: usize, first: bool) -> bool
-    requires { ⌜ Part g (now work) base n ⌝ }
+    requires { ⌜ Partition g (now work) base n ⌝ }
     ensures { λ changed. ⌜ Round g (now (work .entry)) (now (work .exit)) base n first changed ⌝ }
 {
     split(work, g, base, n, first);

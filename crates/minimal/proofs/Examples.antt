@@ -2,7 +2,6 @@
 use mathlib.Core.Path.{_≡_, refl}
 use mathlib.Core.List.{[], _∷_}
 use lib.ListN.{length}
-use Rattle.cascades.specs.Rule.{Rule, Cascade}
 use Rattle.minimal.specs.TableOf.{tableOf}
 
 -- 0 → 1, then 1 0 → 0 0, over two tags: three states. There would be four if states were merged before the output is as early as it can be

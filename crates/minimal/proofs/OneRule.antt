@@ -4,35 +4,26 @@ use native.Mathlib.Omega.{arith}
 use native.Mathlib.Decide.{ℕ-discrete, decLt}
 use mathlib.Core.Path.{_≡_, refl, sym, ap, ap₂, _∙_, subst}
 use mathlib.Core.Logic.{_⊎_, inl, inr}
-use mathlib.Core.List.{List, [], _∷_, _++_, append-assoc, append-nil, append-cancel-left}
-use mathlib.Core.Bool.{Bool, true, false, false≢true}
+use mathlib.Core.List.{List, [], _∷_, _++_, append-nil, append-cancel-left}
+use mathlib.Core.Bool.{Bool, true, false}
 use lib.ListN.{length, take, drop, getD, set, length-append, length-drop, length-set, take-append-drop, drop-of-length-le}
-use lib.Seq.{take-all, take-take, take-append-seam, take-append-add, take-at, drop-append-seam, take-set-le, getD-set-same, getD-take, take-suc, drop-cons, length-take-le}
+use lib.Seq.{take-all, take-take, take-append-seam, drop-append-seam, take-set-le, getD-set-same, getD-take, take-suc, drop-cons, length-take-le}
 use lib.Dec.{eqb}
-use borrow.Author.Tests.{eq-eqb, ne-eqb}
 use Rattle.words.specs.Word.{Below, prefix}
 use Rattle.words.specs.Front.{first}
 use Rattle.words.specs.Overlap.{overlap}
-use Rattle.words.proofs.Word.{below-suc, below-append, below-take, below-drop, below-set, prefix-append, prefix-split, prefix-shorter, prefix-length}
+use Rattle.words.proofs.Word.{below-suc, below-take, below-drop, prefix-append, prefix-split, prefix-length}
 use Rattle.words.proofs.Overlap.{overlap-le, overlap-prefix}
 use Rattle.cascades.specs.Rule.{Rule, replaced, ValidRule}
 use Rattle.cascades.specs.Rewrite.{rewrite, apply}
+use Rattle.cascades.proofs.Rewrite.{rewrite-short}
 use Rattle.transducers.specs.Transducer.{puts}
 use Rattle.transducers.specs.Run.{walk}
 use Rattle.transducers.specs.Canonical.{Same, Free, Minimal, Sound, Held}
 use Rattle.transducers.proofs.Run.{walk-append}
-use Rattle.minimal.specs.Matcher.{Matcher, held, said, moves, matching}
+use Rattle.minimal.specs.Matcher.{held, moves}
 use Rattle.minimal.specs.OneRule.{borders, oneRule}
 use Rattle.minimal.proofs.Matcher.{ending, Fronts, Rewrites, Matches, held-in, held-all, held-length, said-after, moves-after, moves-match, moves-on, does-before, sound-matching, held-matching}
-
--- a word shorter than u is unchanged
-pub rewrite-short : (u v w : List ℕ) → length w < length u → rewrite u v w ≡ w
-rewrite-short u v [] h = refl
-rewrite-short u v (a ∷ w) h = go (prefix u (a ∷ w)) refl (rewrite-short u v w (omega arith))
-  where
-    go : (b : Bool) → prefix u (a ∷ w) ≡ b → rewrite u v w ≡ w → elim b [ true ↦ v ++ drop (length u) (a ∷ w) | false ↦ a ∷ rewrite u v w ] ≡ a ∷ w
-    go true e rest = absurd (omega (arith, prefix-length u (a ∷ w) e))
-    go false e rest = ap {B = List ℕ} (λ l. a ∷ l) rest
 
 -- u at the front becomes v
 pub rewrite-front : (u v x : List ℕ) → 0 < length u → rewrite u v (u ++ x) ≡ v ++ x

@@ -13,7 +13,7 @@ use Rattle.transducers.specs.Transducer.{puts, Transducer, turns}
 use Rattle.transducers.specs.Table.{Table, shape}
 use Rattle.transducers.specs.Run.{outputs}
 use Rattle.transducers.specs.Canonical.{Reached, Sound, Held, Canonical}
-use Rattle.transducers.specs.Numbered.{Numbered}
+use Rattle.transducers.specs.Numbered.{AsReached}
 use Rattle.transducers.specs.Tabulate.{Rows}
 use Rattle.minimal.specs.TableOf.{tableOf}
 use Rattle.minimal.proofs.TableOf.{Good, good, good-smallest, good-ahead, good-more, good-early, good-only, good-canonical, one-rule-count, valid-take}
@@ -37,7 +37,7 @@ module _ (l : ℕ) (c : Cascade) (valid : ValidCascade l c) where
   early = good-early (c .tags) ((l - 1) * length (c .rules)) (behavior c) (tableOf c) (good l c valid)
 
   -- "States are numbered as first reached from state 0, lower-numbered states first and within a state lower tags first"
-  pub numbered : Numbered (c .tags) (shape (tableOf c))
+  pub numbered : AsReached (c .tags) (shape (tableOf c))
   numbered = good l c valid .canonical .numbered
 
   pub reached : (q : ℕ) → q < length (tableOf c) → Reached (c .tags) (shape (tableOf c)) q

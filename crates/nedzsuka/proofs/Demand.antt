@@ -2,7 +2,7 @@
 -- output slices. A number's lower 8 bits are its remainder by 256, and the rest is its quotient.
 use Prim.Native.Nat.{ℕ, zero, suc, _+_, _*_, _/_, _%_, _≤_, _<_}
 use native.Mathlib.Omega.{arith}
-use mathlib.Core.Path.{_≡_, refl, sym, ap, _∙_, subst}
+use mathlib.Core.Path.{_≡_, refl, sym, ap, _∙_}
 use mathlib.Core.Logic.{_↔_}
 use mathlib.Core.List.{List, _++_}
 use lib.ListN.{length, take, drop}
@@ -17,10 +17,11 @@ use Rattle.compilation.specs.Compile.{compileAnswer}
 use Rattle.compilation.specs.Demand.{PartNeedsMore, Shortest, Alike, Premises, SmallestTable, Compiled, Named, BookMakes, TableMakes}
 use Rattle.compilation.proofs.Demand as demand
 use Rattle.compilation.proofs.Runs as runs
-use Rattle.compiler.specs.Answer.{longOf}
+use Rattle.compilation.specs.Compile.{longOf}
 use Rattle.compiler.proofs.Demand.{front-result, long-rule}
-use Rattle.nedzsuka.specs.Packed.{packed, taken, unpacked, handed, Legible}
-use Rattle.nedzsuka.proofs.Number.{legible-book, legible-table, legible-compile, unpacked-packed}
+use Rattle.packing.specs.Packed.{packed, taken, unpacked, handed, Legible}
+use Rattle.packing.proofs.Number.{unpacked-packed}
+use Rattle.nedzsuka.proofs.Legible.{legible-book, legible-table, legible-compile}
 
 -- what the contract of nedzsuka_compile says of the number and the output slice
 pub record CompileCall (book : List ℕ) (n : ℕ) (work before after : List ℕ) (number : ℕ) : Type 0 where

@@ -1,3 +1,3 @@
--- The functions for C: what their numbers mean, and the demands about them.
-pub mod Number
+-- The functions for C: their numbers tell every outcome, and the demands about them.
+pub mod Legible
 pub mod Demand

@@ -1,56 +1,15 @@
 // The functions for C (document 01, "host door"): compile and both runs, each answering one number. include/nedzsuka.h tells a host what
 // they promise.
-use answers::Refusal;
-use answers::RunAnswer;
-use compiler::CompileAnswer;
+use packing::pack_compile;
+use packing::pack_run;
 ghost use mathlib.Core.Path.{_≡_};
-ghost use Prim.Native.Nat.{_+_, _*_, _^_, _<_};
 ghost use lib.ListN.{length};
-ghost use Rattle.answers.specs.Answer.{refusal, runOutcome};
 ghost use Rattle.sentences.specs.Run.{changed, written};
 ghost use Rattle.tagger.specs.Run.{bookRun};
 ghost use Rattle.tables.specs.Run.{tableRun};
-ghost use Rattle.compilation.specs.Compile.{tested, compileAnswer};
-ghost use Rattle.compiler.specs.Answer.{compileOutcome, longOf, worked};
-ghost use Rattle.nedzsuka.specs.Packed.{packed, Legible};
-
-fn pack(upper: usize, number: u8) -> u64
-    requires { ⌜ upper < 2 ^ 56 ⌝ }
-    ensures { λ r. ⌜ r ≡ upper * 256 + number ⌝ }
-{
-    upper as u64 * 256 + number as u64
-}
-
-fn pack_refusal(given: Refusal) -> u64
-    requires { ⌜ Legible (refusal given) ⌝ }
-    ensures { λ r. ⌜ r ≡ packed (refusal given) ⌝ }
-{
-    match given {
-        Refusal::AtByte { number, .. } => pack(0, number),
-        Refusal::AtRule { number, rule } => pack(rule, number),
-        Refusal::Bare { number } => pack(0, number),
-    }
-}
-
-fn pack_run(answer: RunAnswer) -> u64
-    requires { ⌜ Legible (runOutcome answer) ⌝ }
-    ensures { λ r. ⌜ r ≡ packed (runOutcome answer) ⌝ }
-{
-    match answer {
-        RunAnswer::Changed(count) => pack(count, 0),
-        RunAnswer::Refused(given) => pack_refusal(given),
-    }
-}
-
-fn pack_compile(answer: CompileAnswer) -> u64
-    requires { ⌜ Legible (compileOutcome answer) ⌝ }
-    ensures { λ r. ⌜ r ≡ packed (compileOutcome answer) ⌝ }
-{
-    match answer {
-        CompileAnswer::Table(size) => pack(size, 0),
-        CompileAnswer::Refused(given) => pack_refusal(given),
-    }
-}
+ghost use Rattle.compilation.specs.Compile.{tested, compileAnswer, longOf};
+ghost use Rattle.compiler.specs.Answer.{worked};
+ghost use Rattle.packing.specs.Packed.{packed};
 
 // compiler::compile: the number of the table's bytes, or the refusal.
 #[no_mangle]

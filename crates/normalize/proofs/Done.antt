@@ -11,15 +11,16 @@ use Rattle.transducers.specs.Transducer.{puts}
 use Rattle.transducers.specs.Table.{Table}
 use Rattle.transducers.specs.Tabulate.{table, Doing}
 use Rattle.transducers.specs.Normalize.{front, fronts, stripped, normalize, Consistent, Above}
-use Rattle.transducers.proofs.Normalize.{fronts-any, doing-normalize}
+use Rattle.transducers.proofs.Tabulate.{length-table}
+use Rattle.transducers.proofs.Normalize.{fronts-any, doing-normalize, early-normalize}
 use Rattle.workspace.specs.declared.Grid.{Grid}
 use Rattle.workspace.specs.Entries.{FINAL, FRONT}
-use Rattle.workspace.specs.Cells.{at, word, Sized, Inner, Kept, In-rows, Spare}
+use Rattle.workspace.specs.Cells.{at, Sized, Inner, Kept, In-rows, Spare}
 use Rattle.workspace.specs.Holds.{Ready, StepAt, RowAt, Holds, tableAt, standing}
 use Rattle.workspace.proofs.Regions.{kept-then, kept-wider, sized-kept}
 use Rattle.workspace.proofs.Words.{word-kept}
 use Rattle.workspace.proofs.Holds.{step-kept, length-at, holds-doing}
-use Rattle.normalize.specs.Fronts.{size, frontAt, Fronted, Settled, Started}
+use Rattle.normalize.specs.Fronts.{frontSize, frontAt, Fronted, Settled, Started}
 use Rattle.normalize.specs.Strip.{nextAt, strippedAt, Strip, Steps, Steps-stripped, Finals, Finals-stripped, Normalized}
 use Rattle.normalize.proofs.Meets.{take-prefix}
 use Rattle.workspace.proofs.Views.{in-table, final-is, final-size, final-inner, output-is, output-size, output-inner, next-is, next-below, next-at-below, same-table, ready-kept}
@@ -35,15 +36,15 @@ module _ (g : Grid) (U : List ℕ) (base n : ℕ) (ok : Fronted g U base n)
   pub consistent : Consistent (g .tags) (standing g U base n) (frontAt g U base n)
   consistent =
       record {
-        held = λ q h. take-prefix (size g U base q) (standing g U base n .final q);
+        held = λ q h. take-prefix (frontSize g U base q) (standing g U base n .final q);
         steps = λ q a h ha. rests q a (below q h) ha;
       }
 
-  front-long : (q : ℕ) → q < n → length (frontAt g U base n q) ≡ size g U base q
-  front-long q h = length-take-le (size g U base q) (standing g U base n .final q) (ok .fronts q h)
+  front-long : (q : ℕ) → q < n → length (frontAt g U base n q) ≡ frontSize g U base q
+  front-long q h = length-take-le (frontSize g U base q) (standing g U base n .final q) (ok .fronts q h)
 
-  next-size : (q a : ℕ) → q < n → a < g .tags → size g U base (nextAt g U base q a) ≡ size g U base (standing g U base n .next q a)
-  next-size q a h ha = ap (size g U base) (next-is g U base n (ok .ready) q a h ha)
+  next-size : (q a : ℕ) → q < n → a < g .tags → frontSize g U base (nextAt g U base q a) ≡ frontSize g U base (standing g U base n .next q a)
+  next-size q a h ha = ap (frontSize g U base) (next-is g U base n (ok .ready) q a h ha)
 
   -- every step can be stripped
   pub strips : (q a : ℕ) → q < n → a < g .tags → Strip g U base q a
@@ -93,7 +94,7 @@ module _ (g : Grid) (U : List ℕ) (base n : ℕ) (ok : Fronted g U base n)
     pub finals-place : (base + n ≤ g .rows) × (8 ≤ g .depth)
     finals-place = (ok .ready .inside, omega (arith, ok .ready .room))
 
-    pub finals : (q : ℕ) → q < n → Inner g Y (base + q) (g .tags) FINAL × (size g Y base q ≤ at g Y (base + q) (g .tags) FINAL)
+    pub finals : (q : ℕ) → q < n → Inner g Y (base + q) (g .tags) FINAL × (frontSize g Y base q ≤ at g Y (base + q) (g .tags) FINAL)
     finals q h =
         let i = final-inner g U base n (ok .ready) q h in
         let e = last q 7 (omega (arith, i .inside)) in (
@@ -115,7 +116,7 @@ module _ (g : Grid) (U : List ℕ) (base n : ℕ) (ok : Fronted g U base n)
           fronts-any (g .tags) (tableAt g U base n) (ok .ready .holds .rows) (ok .ready .sound) (frontAt g U base n) consistent above q
           (in-table g U base n (ok .ready) q h)
 
-      size-is : (q : ℕ) → q < n → size g U base q ≡ length (F q)
+      size-is : (q : ℕ) → q < n → frontSize g U base q ≡ length (F q)
       size-is q h = sym (front-long q h) ∙ ap length (fronts-are q h)
 
       output-done : (q a : ℕ) → q < n → a < g .tags → strippedAt g U base q a ≡ stripped (standing g U base n) F .output q a
@@ -125,7 +126,7 @@ module _ (g : Grid) (U : List ℕ) (base n : ℕ) (ok : Fronted g U base n)
           let e = next-is g U base n (ok .ready) q a h ha in
           ap₂ (λ (i : ℕ) (l : List ℕ). drop i l) (size-is q h)
           (ap₂ (λ (l m : List ℕ). l ++ m) (output-is g U base n (ok .ready) q a h ha)
-          (ap (take (size g U base (nextAt g U base q a))) (final-is g U base n (ok .ready) (nextAt g U base q a) to)
+          (ap (take (frontSize g U base (nextAt g U base q a))) (final-is g U base n (ok .ready) (nextAt g U base q a) to)
           ∙ ap (frontAt g U base n) e
           ∙ fronts-are (S .next q a) (next-below g U base n (ok .ready) q a h ha)))
 
@@ -172,8 +173,19 @@ module _ (g : Grid) (W : List ℕ) (base n : ℕ) (ok : Ready g W base n) (X U Y
   pub normalized : Steps-stripped g U Y base n → Finals-stripped g Y Z base n → Normalized g W Z base n
   normalized s f =
       record {
-        holds = subst (λ (t : Table). Holds g Z base (normalize (g .tags) t)) same
-            (holds-normalized g U base n fronted (settled .rests) Y s Z f (settled .lowered .above (above-start g W base n ok X started)));
+        stands = λ d h does.
+            let t = tableAt g W base n in
+            record {
+              made =
+                  record {
+                    table = normalize (g .tags) t;
+                    long = length-table (g .tags) _ ∙ length-at g W base n;
+                    doing = doing-normalize (g .tags) d h t does;
+                    so = early-normalize (g .tags) d h t does;
+                  };
+              holds = subst (λ (t : Table). Holds g Z base (normalize (g .tags) t)) same
+                  (holds-normalized g U base n fronted (settled .rests) Y s Z f (settled .lowered .above (above-start g W base n ok X started)));
+            };
         kept =
             then W X Z (kept-wider g (In-rows base (base + n)) (Spare g base (base + n) FRONT (FRONT + 1)) W X (started .kept) (λ r c e i. (i .0, i .1)))
             (then X U Z (kept-wider g (In-rows base (base + n)) (Spare g base (base + n) FRONT (FRONT + 1)) X U (settled .lowered .kept) (λ r c e i. (i .0, i .1)))

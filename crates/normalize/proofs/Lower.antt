@@ -25,19 +25,19 @@ use Rattle.workspace.specs.Cells.{at, word, Kept, Entry, Spare, Put, Got}
 use Rattle.workspace.specs.Holds.{Ready, standing}
 use Rattle.workspace.proofs.Regions.{kept-none, kept-then, kept-wider}
 use Rattle.workspace.proofs.Holds.{length-at}
-use Rattle.normalize.specs.Fronts.{size, frontAt, Fronted, Rests, Lowered, Lesser, Turn, Either, Started}
+use Rattle.normalize.specs.Fronts.{frontSize, frontAt, Fronted, Rests, Lowered, Lesser, Turn, Either, Started}
 use Rattle.normalize.proofs.Meets.{meet-short, meet-stops, meet-goes, prefix-take, take-prefix}
 use Rattle.workspace.proofs.Views.{final-is, final-size, output-is, output-size, next-is, next-below, same-table, ready-kept}
 
 module _ (g : Grid) (W : List ℕ) (base n : ℕ) (ok : Fronted g W base n) where
-  front-long : (q : ℕ) → q < n → length (frontAt g W base n q) ≡ size g W base q
-  front-long q h = length-take-le (size g W base q) (standing g W base n .final q) (ok .fronts q h)
+  front-long : (q : ℕ) → q < n → length (frontAt g W base n q) ≡ frontSize g W base q
+  front-long q h = length-take-le (frontSize g W base q) (standing g W base n .final q) (ok .fronts q h)
 
-  pub meeting-le : (q : ℕ) → q < n → (o : List ℕ) → length (meet (frontAt g W base n q) o) ≤ size g W base q
+  pub meeting-le : (q : ℕ) → q < n → (o : List ℕ) → length (meet (frontAt g W base n q) o) ≤ frontSize g W base q
   meeting-le q h o = omega (arith, begins-length (meet-left (frontAt g W base n q) o), front-long q h)
 
   -- what the front of q and the step on a have in common, as the code finds it
-  module _ (q a own long : ℕ) (h : q < n) (ha : a < g .tags) (is-own : own ≡ size g W base q) (is-long : long ≡ at g W (base + q) a OUTPUT) where
+  module _ (q a own long : ℕ) (h : q < n) (ha : a < g .tags) (is-own : own ≡ frontSize g W base q) (is-long : long ≡ at g W (base + q) a OUTPUT) where
     pub front-short : (j : ℕ) → own ≤ long → j ≡ length (meet (drop 0 (word g W (base + q) (g .tags) FINAL)) (take own (word g W (base + q) a OUTPUT)))
         → j ≡ length (meet (frontAt g W base n q) (standing g W base n .output q a ++ frontAt g W base n (standing g W base n .next q a)))
     front-short j le e =
@@ -62,7 +62,7 @@ module _ (g : Grid) (W : List ℕ) (base n : ℕ) (ok : Fronted g W base n) wher
           ∙ meet-stops own (S .final q) (S .output q a) (frontAt g W base n (S .next q a)) (omega (arith, is-size)) (omega (arith, is-size, in-words))
           ∙ ap (λ (f : ℕ). length (meet (take f (S .final q)) (S .output q a ++ frontAt g W base n (S .next q a)))) is-own
 
-      pub front-goes : (next other lower rest : ℕ) → long ≤ j → next ≡ at g W (base + q) a NEXT → other ≡ size g W base next → lower ≡ min (own - long) other
+      pub front-goes : (next other lower rest : ℕ) → long ≤ j → next ≡ at g W (base + q) a NEXT → other ≡ frontSize g W base next → lower ≡ min (own - long) other
           → rest ≡ length (meet (drop long (word g W (base + q) (g .tags) FINAL)) (take lower (word g W (base + next) (g .tags) FINAL)))
           → long + rest ≡ length (meet (frontAt g W base n q) (standing g W base n .output q a ++ frontAt g W base n (standing g W base n .next q a)))
       front-goes next other lower rest le is-next is-other is-lower d =
@@ -70,8 +70,8 @@ module _ (g : Grid) (W : List ℕ) (base n : ℕ) (ok : Fronted g W base n) wher
           let to : next ≡ S .next q a = is-next ∙ next-is g W base n (ok .ready) q a h ha in
           let at-next : word g W (base + next) (g .tags) FINAL ≡ S .final (S .next q a) =
           ap (λ (i : ℕ). word g W (base + i) (g .tags) FINAL) to ∙ final-is g W base n (ok .ready) (S .next q a) (next-below g W base n (ok .ready) q a h ha) in
-          let m = size g W base (S .next q a) in
-          let is-m : other ≡ m = is-other ∙ ap (size g W base) to in
+          let m = frontSize g W base (S .next q a) in
+          let is-m : other ≡ m = is-other ∙ ap (frontSize g W base) to in
           let e1 : rest ≡ length (meet (drop (length (S .output q a)) (S .final q)) (take (min (own - length (S .output q a)) m) (S .final (S .next q a)))) =
           d ∙ ap₂ (λ (u v : List ℕ). length (meet (drop long u) (take lower v))) (final-is g W base n (ok .ready) q h) at-next
           ∙ ap₂ (λ (i l : ℕ). length (meet (drop i (S .final q)) (take l (S .final (S .next q a))))) is-size
@@ -84,7 +84,7 @@ module _ (g : Grid) (W : List ℕ) (base n : ℕ) (ok : Fronted g W base n) wher
   lowered-none = record { kept = kept-none g (Spare g base (base + n) FRONT (FRONT + 1)) W; less = λ q h. omega arith; above = λ a. a }
 
   -- an empty front rests
-  pub turn-empty : (q own : ℕ) → own ≡ size g W base q → own ≡ 0 → Turn g W W base n ((a : ℕ) → a < g .tags → Rests g W base n q a) false
+  pub turn-empty : (q own : ℕ) → own ≡ frontSize g W base q → own ≡ 0 → Turn g W W base n ((a : ℕ) → a < g .tags → Rests g W base n q a) false
   turn-empty q own is none =
       record {
         lowered = lowered-none;
@@ -93,7 +93,7 @@ module _ (g : Grid) (W : List ℕ) (base n : ℕ) (ok : Fronted g W base n) wher
       }
 
   -- one step of one state
-  module _ (q a own j : ℕ) (h : q < n) (ha : a < g .tags) (is-own : own ≡ size g W base q)
+  module _ (q a own j : ℕ) (h : q < n) (ha : a < g .tags) (is-own : own ≡ frontSize g W base q)
       (is : j ≡ length (meet (frontAt g W base n q) (standing g W base n .output q a ++ frontAt g W base n (standing g W base n .next q a)))) where
     pub turn-rest : own ≤ j → Turn g W W base n (Rests g W base n q a) false
     turn-rest le =
@@ -114,8 +114,8 @@ module _ (g : Grid) (W : List ℕ) (base n : ℕ) (ok : Fronted g W base n) wher
               record {
                 kept = kept;
                 less = λ i hi. low i (ℕ-discrete i q);
-                above = λ up. subst (λ (t : Table). Above (g .tags) (shape t) (λ i. take (size g X base i) (shape t .final i))) (sym (same-table g W base n (ok .ready) X 0 1 (omega arith) kept))
-                    (above-lowered (g .tags) (standing g W base n) (frontAt g W base n) (λ i. take (size g X base i) (standing g W base n .final i)) up
+                above = λ up. subst (λ (t : Table). Above (g .tags) (shape t) (λ i. take (frontSize g X base i) (shape t .final i))) (sym (same-table g W base n (ok .ready) X 0 1 (omega arith) kept))
+                    (above-lowered (g .tags) (standing g W base n) (frontAt g W base n) (λ i. take (frontSize g X base i) (standing g W base n .final i)) up
                     (ok .ready .sound .next-below) (λ i hi. how i (ℕ-discrete i q)));
               };
           falls = λ e. record { state = q; below = h; less = omega (arith, p .here) };
@@ -127,16 +127,16 @@ module _ (g : Grid) (W : List ℕ) (base n : ℕ) (ok : Fronted g W base n) wher
             kept-wider g (Spare g base (base + n) FRONT (FRONT + 1)) (Entry (base + q) (g .tags) FRONT) W X (p .kept)
             (λ r c e i. (omega (arith, i .0), omega (arith, i .0), i .1, omega arith, omega (arith, i .2)))
 
-        other : (i : ℕ) → (i ≡ q → ⊥) → size g X base i ≡ size g W base i
+        other : (i : ℕ) → (i ≡ q → ⊥) → frontSize g X base i ≡ frontSize g W base i
         other i ne = p .kept .same (base + i) (g .tags) FRONT (omega arith) (omega (arith, ok .ready .room)) (λ e. ne (omega (arith, e .0)))
 
-        low : (i : ℕ) → Dec (i ≡ q) → size g X base i ≤ size g W base i
+        low : (i : ℕ) → Dec (i ≡ q) → frontSize g X base i ≤ frontSize g W base i
         low i (yes e) = rw e (omega (arith, p .here))
         low i (no ne) = omega (arith, other i ne)
 
         how : (i : ℕ) → Dec (i ≡ q)
-            → (take (size g X base i) (standing g W base n .final i) ≡ frontAt g W base n i)
-            ⊎ ((b : ℕ) × (b < g .tags) × (take (size g X base i) (standing g W base n .final i)
+            → (take (frontSize g X base i) (standing g W base n .final i) ≡ frontAt g W base n i)
+            ⊎ ((b : ℕ) × (b < g .tags) × (take (frontSize g X base i) (standing g W base n .final i)
             ≡ meet (frontAt g W base n i) (standing g W base n .output i b ++ frontAt g W base n (standing g W base n .next i b))))
         how i (no ne) = inl (ap (λ (f : ℕ). take f (standing g W base n .final i)) (other i ne))
         how i (yes e) =
@@ -148,7 +148,7 @@ module _ (g : Grid) (W : List ℕ) (base n : ℕ) (ok : Fronted g W base n) wher
               a,
               ha,
               ap (λ (f : ℕ). take f (S .final q)) (p .here ∙ is)
-                  ∙ prefix-take (begins-trans (meet-left (frontAt g W base n q) o) (take-prefix (size g W base q) (S .final q))),
+                  ∙ prefix-take (begins-trans (meet-left (frontAt g W base n q) o) (take-prefix (frontSize g W base q) (S .final q))),
             ))
 
   -- lowered fronts are parts of the final words still
@@ -202,34 +202,34 @@ module _ (g : Grid) (base n : ℕ) where
 
   -- the sum of the fronts' lengths
   abbrev pub weight : List ℕ → ℕ
-  weight W = total (tabulate n 0 (size g W base))
+  weight W = total (tabulate n 0 (frontSize g W base))
 
   abbrev pub flag : Bool → ℕ
   flag true = 1
   flag false = 0
 
-  sizes : (W : List ℕ) (q : ℕ) → q < n → getD (tabulate n 0 (size g W base)) q 0 ≡ size g W base q
-  sizes W q h = at-tabulate n q (size g W base) 0 h
+  sizes : (W : List ℕ) (q : ℕ) → q < n → getD (tabulate n 0 (frontSize g W base)) q 0 ≡ frontSize g W base q
+  sizes W q h = at-tabulate n q (frontSize g W base) 0 h
 
   pub weight-less : (W X : List ℕ) → Lowered g W X base n → Lesser g W X base n → weight X < weight W
   weight-less W X a l = go (ℕ-discrete (weight X) (weight W))
     where
-      long : length (tabulate n 0 (size g X base)) ≡ length (tabulate n 0 (size g W base))
-      long = length-tabulate n 0 (size g X base) ∙ sym (length-tabulate n 0 (size g W base))
+      long : length (tabulate n 0 (frontSize g X base)) ≡ length (tabulate n 0 (frontSize g W base))
+      long = length-tabulate n 0 (frontSize g X base) ∙ sym (length-tabulate n 0 (frontSize g W base))
 
-      le : (i : ℕ) → i < length (tabulate n 0 (size g X base)) → getD (tabulate n 0 (size g X base)) i 0 ≤ getD (tabulate n 0 (size g W base)) i 0
-      le i h = let b : i < n = omega (arith, length-tabulate n 0 (size g X base)) in omega (arith, sizes X i b, sizes W i b, a .less i b)
+      le : (i : ℕ) → i < length (tabulate n 0 (frontSize g X base)) → getD (tabulate n 0 (frontSize g X base)) i 0 ≤ getD (tabulate n 0 (frontSize g W base)) i 0
+      le i h = let b : i < n = omega (arith, length-tabulate n 0 (frontSize g X base)) in omega (arith, sizes X i b, sizes W i b, a .less i b)
 
       go : Dec (weight X ≡ weight W) → weight X < weight W
       go (yes e) =
           absurd (omega (
             arith,
-            total-same (tabulate n 0 (size g X base)) (tabulate n 0 (size g W base)) long le e (l .state) (omega (arith, l .below, length-tabulate n 0 (size g X base))),
+            total-same (tabulate n 0 (frontSize g X base)) (tabulate n 0 (frontSize g W base)) long le e (l .state) (omega (arith, l .below, length-tabulate n 0 (frontSize g X base))),
             sizes X (l .state) (l .below),
             sizes W (l .state) (l .below),
             l .less,
           ))
-      go (no ne) = omega (arith, ne, total-le (tabulate n 0 (size g X base)) (tabulate n 0 (size g W base)) long le)
+      go (no ne) = omega (arith, ne, total-le (tabulate n 0 (frontSize g X base)) (tabulate n 0 (frontSize g W base)) long le)
 
   pub falls-on : (W X : List ℕ) (P : Type 0) (r : Bool) → Turn g W X base n P r → weight X + flag r < weight W + 1
   falls-on W X P true t = omega (arith, weight-less W X (t .lowered) (t .falls refl))
@@ -238,7 +238,7 @@ module _ (g : Grid) (base n : ℕ) where
 -- the fronts that the work starts with: those of the states below q are set
 pub record Starting (g : Grid) (W X : List ℕ) (base n q : ℕ) : Type 0 where
   pub kept : Kept g W X (Spare g base (base + n) FRONT (FRONT + 1))
-  pub whole : (i : ℕ) → i < q → size g X base i ≡ length (standing g W base n .final i)
+  pub whole : (i : ℕ) → i < q → frontSize g X base i ≡ length (standing g W base n .final i)
 
 module _ (g : Grid) (W : List ℕ) (base n : ℕ) (ok : Ready g W base n) where
   pub starting-none : Starting g W W base n 0
@@ -255,7 +255,7 @@ module _ (g : Grid) (W : List ℕ) (base n : ℕ) (ok : Ready g W base n) where
         whole = λ i hi. go i (below-suc i q (omega arith));
       }
     where
-      go : (i : ℕ) → (i < q) ⊎ (i ≡ q) → size g Y base i ≡ length (standing g W base n .final i)
+      go : (i : ℕ) → (i < q) ⊎ (i ≡ q) → frontSize g Y base i ≡ length (standing g W base n .final i)
       go i (inl hi) = p .kept .same (base + i) (g .tags) FRONT (omega arith) (omega (arith, ok .room)) (λ e. omega (arith, e .0)) ∙ s .whole i hi
       go i (inr e) =
           rw e
@@ -272,5 +272,5 @@ module _ (g : Grid) (W : List ℕ) (base n : ℕ) (ok : Ready g W base n) where
 
   pub above-start : (X : List ℕ) → Started g W X base n → Above (g .tags) (standing g X base n) (frontAt g X base n)
   above-start X s =
-      subst (λ (t : Table). Above (g .tags) (shape t) (λ q. take (size g X base q) (shape t .final q))) (sym (same-table g W base n ok X 0 1 (omega arith) (s .kept)))
+      subst (λ (t : Table). Above (g .tags) (shape t) (λ q. take (frontSize g X base q) (shape t .final q))) (sym (same-table g W base n ok X 0 1 (omega arith) (s .kept)))
       (λ q h z all. rw (s .whole q (omega (arith, length-at g W base n)), take-length (standing g W base n .final q)) (all [] tt))

@@ -1,5 +1,5 @@
 -- Steps and final words without their states' fronts.
-use Prim.Native.Nat.{ℕ, suc, _+_, _-_, _≤_, _<_}
+use Prim.Native.Nat.{ℕ, _+_, _-_, _≤_, _<_}
 use native.Mathlib.Omega.{arith}
 use mathlib.Core.Path.{_≡_, sym, ap, ap₂, _∙_}
 use mathlib.Core.Logic.{_⊎_, inl, inr}
@@ -14,7 +14,7 @@ use Rattle.workspace.specs.Holds.{StepAt}
 use Rattle.workspace.proofs.Regions.{kept-none, kept-then, kept-wider, sized-kept}
 use Rattle.workspace.proofs.Words.{word-length, word-kept, written-more, written-is}
 use Rattle.workspace.proofs.Holds.{step-kept}
-use Rattle.normalize.specs.Fronts.{size}
+use Rattle.normalize.specs.Fronts.{frontSize}
 use Rattle.normalize.specs.Strip.{nextAt, strippedAt, Strip, Steps, Row-stripped, Steps-stripped, Finals, Finals-stripped}
 
 -- one step
@@ -31,40 +31,40 @@ module _ (g : Grid) (W : List ℕ) (base q a : ℕ) (ok : Strip g W base q a) wh
       let e = k .same (base + nextAt g W base q a) (g .tags) FINAL (omega arith) (omega (arith, ok .to .inside)) (λ i. omega (arith, i .1, ok .tag)) in
       (record { row = ok .to .row; cell = ok .to .cell; inside = omega (arith, e, ok .to .inside) }, e)
 
-  pub strip-in : (X Y : List ℕ) → size g W base q ≤ at g W (base + q) a OUTPUT → Written g W X (base + q) a OUTPUT (drop (size g W base q) (word g W (base + q) a OUTPUT))
-      → Written g X Y (base + q) a OUTPUT (word g X (base + q) a OUTPUT ++ part 0 (size g W base (nextAt g W base q a)) (word g X (base + nextAt g W base q a) (g .tags) FINAL))
+  pub strip-in : (X Y : List ℕ) → frontSize g W base q ≤ at g W (base + q) a OUTPUT → Written g W X (base + q) a OUTPUT (drop (frontSize g W base q) (word g W (base + q) a OUTPUT))
+      → Written g X Y (base + q) a OUTPUT (word g X (base + q) a OUTPUT ++ part 0 (frontSize g W base (nextAt g W base q a)) (word g X (base + nextAt g W base q a) (g .tags) FINAL))
       → Written g W Y (base + q) a OUTPUT (strippedAt g W base q a)
   strip-in X Y le one two =
       written-is g W Y (base + q) a OUTPUT _ _
-      (ap (λ (l : List ℕ). drop (size g W base q) (word g W (base + q) a OUTPUT) ++ take (size g W base (nextAt g W base q a)) l) (to-word X (one .kept))
-      ∙ sym (drop-append-le (size g W base q) (word g W (base + q) a OUTPUT) (take (size g W base (nextAt g W base q a)) (word g W (base + nextAt g W base q a) (g .tags) FINAL))
+      (ap (λ (l : List ℕ). drop (frontSize g W base q) (word g W (base + q) a OUTPUT) ++ take (frontSize g W base (nextAt g W base q a)) l) (to-word X (one .kept))
+      ∙ sym (drop-append-le (frontSize g W base q) (word g W (base + q) a OUTPUT) (take (frontSize g W base (nextAt g W base q a)) (word g W (base + nextAt g W base q a) (g .tags) FINAL))
       (omega (arith, word-length g W (base + q) a OUTPUT))))
       (written-more g W X (base + q) a OUTPUT Y _ _ one two)
 
-  pub strip-past : (X Y : List ℕ) → at g W (base + q) a OUTPUT ≤ size g W base q → Written g W X (base + q) a OUTPUT []
+  pub strip-past : (X Y : List ℕ) → at g W (base + q) a OUTPUT ≤ frontSize g W base q → Written g W X (base + q) a OUTPUT []
       → Written g X Y (base + q) a OUTPUT
-      (word g X (base + q) a OUTPUT ++ part (size g W base q - at g W (base + q) a OUTPUT) (size g W base (nextAt g W base q a)) (word g X (base + nextAt g W base q a) (g .tags) FINAL))
+      (word g X (base + q) a OUTPUT ++ part (frontSize g W base q - at g W (base + q) a OUTPUT) (frontSize g W base (nextAt g W base q a)) (word g X (base + nextAt g W base q a) (g .tags) FINAL))
       → Written g W Y (base + q) a OUTPUT (strippedAt g W base q a)
   strip-past X Y le one two =
       let o = word g W (base + q) a OUTPUT in
-      let z = take (size g W base (nextAt g W base q a)) (word g W (base + nextAt g W base q a) (g .tags) FINAL) in
-      let e : size g W base q ≡ length o + (size g W base q - at g W (base + q) a OUTPUT) = omega (arith, word-length g W (base + q) a OUTPUT) in
+      let z = take (frontSize g W base (nextAt g W base q a)) (word g W (base + nextAt g W base q a) (g .tags) FINAL) in
+      let e : frontSize g W base q ≡ length o + (frontSize g W base q - at g W (base + q) a OUTPUT) = omega (arith, word-length g W (base + q) a OUTPUT) in
       written-is g W Y (base + q) a OUTPUT _ _
-      (ap (λ (l : List ℕ). drop (size g W base q - at g W (base + q) a OUTPUT) (take (size g W base (nextAt g W base q a)) l)) (to-word X (one .kept))
-      ∙ sym (ap (λ (i : ℕ). drop i (o ++ z)) e ∙ drop-append-add o z (size g W base q - at g W (base + q) a OUTPUT)))
+      (ap (λ (l : List ℕ). drop (frontSize g W base q - at g W (base + q) a OUTPUT) (take (frontSize g W base (nextAt g W base q a)) l)) (to-word X (one .kept))
+      ∙ sym (ap (λ (i : ℕ). drop i (o ++ z)) e ∙ drop-append-add o z (frontSize g W base q - at g W (base + q) a OUTPUT)))
       (written-more g W X (base + q) a OUTPUT Y _ _ one two)
 
   pub stripped-room : Fits g OUTPUT (length (strippedAt g W base q a))
   stripped-room =
       let o = word g W (base + q) a OUTPUT in
       let x = word g W (base + nextAt g W base q a) (g .tags) FINAL in
-      let z = take (size g W base (nextAt g W base q a)) x in
+      let z = take (frontSize g W base (nextAt g W base q a)) x in
       omega (
         arith,
-        length-drop (size g W base q) (o ++ z),
+        length-drop (frontSize g W base q) (o ++ z),
         length-append o z,
         word-length g W (base + q) a OUTPUT,
-        length-take-le (size g W base (nextAt g W base q a)) x (omega (arith, ok .front, word-length g W (base + nextAt g W base q a) (g .tags) FINAL)),
+        length-take-le (frontSize g W base (nextAt g W base q a)) x (omega (arith, ok .front, word-length g W (base + nextAt g W base q a) (g .tags) FINAL)),
         ok .room,
       )
 
@@ -77,7 +77,7 @@ module _ (g : Grid) (W : List ℕ) (base q a : ℕ) (ok : Strip g W base q a) wh
     pub next-same : nextAt g X base q a ≡ nextAt g W base q a
     next-same = k .same (base + q) a NEXT (omega (arith, ok .tag)) (omega (arith, deep)) (out-cell 0)
 
-    size-same : (i : ℕ) → size g X base i ≡ size g W base i
+    size-same : (i : ℕ) → frontSize g X base i ≡ frontSize g W base i
     size-same i = k .same (base + i) (g .tags) FRONT (omega arith) (omega (arith, deep)) (out-last (base + i) 0)
 
     long-same : at g X (base + q) a OUTPUT ≡ at g W (base + q) a OUTPUT
@@ -88,8 +88,8 @@ module _ (g : Grid) (W : List ℕ) (base q a : ℕ) (ok : Strip g W base q a) wh
         k .same (base + nextAt g X base q a) (g .tags) FINAL (omega arith) (omega (arith, deep)) (out-last (base + nextAt g X base q a) 7)
         ∙ ap (λ (i : ℕ). at g W (base + i) (g .tags) FINAL) next-same
 
-    other-same : size g X base (nextAt g X base q a) ≡ size g W base (nextAt g W base q a)
-    other-same = size-same (nextAt g X base q a) ∙ ap (size g W base) next-same
+    other-same : frontSize g X base (nextAt g X base q a) ≡ frontSize g W base (nextAt g W base q a)
+    other-same = size-same (nextAt g X base q a) ∙ ap (frontSize g W base) next-same
 
     pub stripped-same : strippedAt g X base q a ≡ strippedAt g W base q a
     stripped-same =
@@ -113,10 +113,10 @@ module _ (g : Grid) (W : List ℕ) (base q a : ℕ) (ok : Strip g W base q a) wh
         }
 
   -- the same by the numbers that were read
-  module _ (own long next other : ℕ) (is-own : own ≡ size g W base q) (is-long : long ≡ at g W (base + q) a OUTPUT) (is-next : next ≡ nextAt g W base q a)
-      (is-other : other ≡ size g W base next) where
-    other-is : other ≡ size g W base (nextAt g W base q a)
-    other-is = is-other ∙ ap (size g W base) is-next
+  module _ (own long next other : ℕ) (is-own : own ≡ frontSize g W base q) (is-long : long ≡ at g W (base + q) a OUTPUT) (is-next : next ≡ nextAt g W base q a)
+      (is-other : other ≡ frontSize g W base next) where
+    other-is : other ≡ frontSize g W base (nextAt g W base q a)
+    other-is = is-other ∙ ap (frontSize g W base) is-next
 
     pub got-to : (X : List ℕ) → Kept g W X (Cell (base + q) a OUTPUT)
         → Inner g X (base + next) (g .tags) FINAL × (other ≤ at g X (base + next) (g .tags) FINAL) × (own ≤ long + other) × Fits g OUTPUT (long + other)
@@ -211,7 +211,7 @@ module _ (g : Grid) (W : List ℕ) (base n : ℕ) (ok : (q a : ℕ) → q < n �
 
 -- the final words
 module _ (g : Grid) (W : List ℕ) (base n : ℕ)
-    (ok : (q : ℕ) → q < n → Inner g W (base + q) (g .tags) FINAL × (size g W base q ≤ at g W (base + q) (g .tags) FINAL)) where
+    (ok : (q : ℕ) → q < n → Inner g W (base + q) (g .tags) FINAL × (frontSize g W base q ≤ at g W (base + q) (g .tags) FINAL)) where
   pub finals-start : Finals-stripped g W W base 0
   finals-start = record { kept = kept-none g (Finals g base (base + 0)) W; finals = λ q h. absurd (omega arith) }
 
@@ -219,7 +219,7 @@ module _ (g : Grid) (W : List ℕ) (base n : ℕ)
     same-long : at g X (base + q) (g .tags) FINAL ≡ at g W (base + q) (g .tags) FINAL
     same-long = s .kept .same (base + q) (g .tags) FINAL (omega arith) (omega (arith, ok q hq .0 .inside)) (λ i. omega (arith, i .1))
 
-    same-own : size g X base q ≡ size g W base q
+    same-own : frontSize g X base q ≡ frontSize g W base q
     same-own = s .kept .same (base + q) (g .tags) FRONT (omega arith) (omega (arith, ok q hq .0 .inside)) (λ i. omega (arith, i .3))
 
     pub finals-inner : Inner g X (base + q) (g .tags) FINAL
@@ -240,7 +240,7 @@ module _ (g : Grid) (W : List ℕ) (base n : ℕ)
           finals = λ p h. go p (below-suc p q (omega arith));
         }
       where
-        go : (p : ℕ) → (p < q) ⊎ (p ≡ q) → word g Y (base + p) (g .tags) FINAL ≡ drop (size g W base p) (word g W (base + p) (g .tags) FINAL)
+        go : (p : ℕ) → (p < q) ⊎ (p ≡ q) → word g Y (base + p) (g .tags) FINAL ≡ drop (frontSize g W base p) (word g W (base + p) (g .tags) FINAL)
         go p (inl h) =
             let hp : p < n = omega arith in
             let before = s .finals p h in
@@ -249,7 +249,7 @@ module _ (g : Grid) (W : List ℕ) (base n : ℕ)
               arith,
               word-length g X (base + p) (g .tags) FINAL,
               ap length before,
-              length-drop (size g W base p) (word g W (base + p) (g .tags) FINAL),
+              length-drop (frontSize g W base p) (word g W (base + p) (g .tags) FINAL),
               word-length g W (base + p) (g .tags) FINAL,
               ok p hp .0 .inside,
             )) (λ e le i. omega (arith, i .0))

@@ -12,16 +12,16 @@ use Rattle.workspace.specs.Entries.{FRONT}
 use Rattle.workspace.specs.Cells.{at, Kept, Spare}
 use Rattle.workspace.specs.Holds.{Ready, standing}
 
-abbrev pub size : Grid → List ℕ → ℕ → ℕ → ℕ
-size g W base q = at g W (base + q) (g .tags) FRONT
+abbrev pub frontSize : Grid → List ℕ → ℕ → ℕ → ℕ
+frontSize g W base q = at g W (base + q) (g .tags) FRONT
 
 abbrev pub frontAt : Grid → List ℕ → ℕ → ℕ → ℕ → List ℕ
-frontAt g W base n q = take (size g W base q) (standing g W base n .final q)
+frontAt g W base n q = take (frontSize g W base q) (standing g W base n .final q)
 
 -- n rows hold a transducer, and each front is a part of the final word
 pub record Fronted (g : Grid) (W : List ℕ) (base n : ℕ) : Type 0 where
   pub ready : Ready g W base n
-  pub fronts : (q : ℕ) → q < n → size g W base q ≤ length (standing g W base n .final q)
+  pub fronts : (q : ℕ) → q < n → frontSize g W base q ≤ length (standing g W base n .final q)
 
 -- the front of q is put out by the step on a and the front after it
 abbrev pub Rests : Grid → List ℕ → ℕ → ℕ → ℕ → ℕ → Type 0
@@ -30,13 +30,13 @@ Rests g W base n q a = Prefix (frontAt g W base n q) (standing g W base n .outpu
 -- fronts were lowered, and not too much
 pub record Lowered (g : Grid) (W X : List ℕ) (base n : ℕ) : Type 0 where
   pub kept : Kept g W X (Spare g base (base + n) FRONT (FRONT + 1))
-  pub less : (q : ℕ) → q < n → size g X base q ≤ size g W base q
+  pub less : (q : ℕ) → q < n → frontSize g X base q ≤ frontSize g W base q
   pub above : Above (g .tags) (standing g W base n) (frontAt g W base n) → Above (g .tags) (standing g X base n) (frontAt g X base n)
 
 pub record Lesser (g : Grid) (W X : List ℕ) (base n : ℕ) : Type 0 where
   pub state : ℕ
   pub below : state < n
-  pub less : size g X base state < size g W base state
+  pub less : frontSize g X base state < frontSize g W base state
 
 -- some front fell, or nothing was written and P holds
 pub record Turn (g : Grid) (W X : List ℕ) (base n : ℕ) (P : Type 0) (fell : Bool) : Type 0 where
@@ -56,4 +56,4 @@ pub record Settled (g : Grid) (W X : List ℕ) (base n : ℕ) : Type 0 where
 -- the fronts are the final words
 pub record Started (g : Grid) (W X : List ℕ) (base n : ℕ) : Type 0 where
   pub kept : Kept g W X (Spare g base (base + n) FRONT (FRONT + 1))
-  pub whole : (q : ℕ) → q < n → size g X base q ≡ length (standing g W base n .final q)
+  pub whole : (q : ℕ) → q < n → frontSize g X base q ≡ length (standing g W base n .final q)

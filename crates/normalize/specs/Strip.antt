@@ -3,12 +3,14 @@ use Prim.Native.Nat.{ℕ, _+_, _≤_, _<_}
 use mathlib.Core.Path.{_≡_}
 use mathlib.Core.List.{List, _++_}
 use lib.ListN.{take, drop}
-use Rattle.transducers.specs.Normalize.{normalize}
+use Rattle.transducers.specs.Table.{shape}
+use Rattle.transducers.specs.Canonical.{Early}
+use Rattle.transducers.specs.Tabulate.{Doing}
 use Rattle.workspace.specs.declared.Grid.{Grid}
 use Rattle.workspace.specs.Entries.{NEXT, OUTPUT, FINAL}
 use Rattle.workspace.specs.Cells.{at, word, Sized, Inner, Kept, In-rows, Fits}
-use Rattle.workspace.specs.Holds.{StepAt, Holds, tableAt}
-use Rattle.normalize.specs.Fronts.{size}
+use Rattle.workspace.specs.Holds.{StepAt, tableAt, Stands}
+use Rattle.normalize.specs.Fronts.{frontSize}
 
 -- the step of q on a: its next state, and its output with the next state's front, without its own
 abbrev pub nextAt : Grid → List ℕ → ℕ → ℕ → ℕ → ℕ
@@ -16,7 +18,7 @@ nextAt g W base q a = at g W (base + q) a NEXT
 
 abbrev pub strippedAt : Grid → List ℕ → ℕ → ℕ → ℕ → List ℕ
 strippedAt g W base q a =
-    drop (size g W base q) (word g W (base + q) a OUTPUT ++ take (size g W base (nextAt g W base q a)) (word g W (base + nextAt g W base q a) (g .tags) FINAL))
+    drop (frontSize g W base q) (word g W (base + q) a OUTPUT ++ take (frontSize g W base (nextAt g W base q a)) (word g W (base + nextAt g W base q a) (g .tags) FINAL))
 
 -- the step can be stripped
 pub record Strip (g : Grid) (W : List ℕ) (base q a : ℕ) : Type 0 where
@@ -24,9 +26,9 @@ pub record Strip (g : Grid) (W : List ℕ) (base q a : ℕ) : Type 0 where
   pub tag : a < g .tags
   pub from : Inner g W (base + q) a OUTPUT
   pub to : Inner g W (base + nextAt g W base q a) (g .tags) FINAL
-  pub front : size g W base (nextAt g W base q a) ≤ at g W (base + nextAt g W base q a) (g .tags) FINAL
-  pub covers : size g W base q ≤ at g W (base + q) a OUTPUT + size g W base (nextAt g W base q a)
-  pub room : Fits g OUTPUT (at g W (base + q) a OUTPUT + size g W base (nextAt g W base q a))
+  pub front : frontSize g W base (nextAt g W base q a) ≤ at g W (base + nextAt g W base q a) (g .tags) FINAL
+  pub covers : frontSize g W base q ≤ at g W (base + q) a OUTPUT + frontSize g W base (nextAt g W base q a)
+  pub room : Fits g OUTPUT (at g W (base + q) a OUTPUT + frontSize g W base (nextAt g W base q a))
 
 -- steps in some rows and cells
 abbrev pub Steps : ℕ → ℕ → ℕ → ℕ → ℕ → ℕ → Type 0
@@ -49,9 +51,9 @@ Finals g lo hi r' c' e' = (lo ≤ r') × (r' < hi) × (c' ≡ g .tags) × (FINAL
 -- the final words of the states below j were stripped
 pub record Finals-stripped (g : Grid) (W X : List ℕ) (base j : ℕ) : Type 0 where
   pub kept : Kept g W X (Finals g base (base + j))
-  pub finals : (q : ℕ) → q < j → word g X (base + q) (g .tags) FINAL ≡ drop (size g W base q) (word g W (base + q) (g .tags) FINAL)
+  pub finals : (q : ℕ) → q < j → word g X (base + q) (g .tags) FINAL ≡ drop (frontSize g W base q) (word g W (base + q) (g .tags) FINAL)
 
--- the rows hold the normalized table
+-- the rows hold a table that does the same, and each state puts out as early as can be
 pub record Normalized (g : Grid) (W X : List ℕ) (base n : ℕ) : Type 0 where
-  pub holds : Holds g X base (normalize (g .tags) (tableAt g W base n))
   pub kept : Kept g W X (In-rows base (base + n))
+  pub stands : (d : ℕ) (f : List ℕ → List ℕ) → Doing (g .tags) d f (tableAt g W base n) → Stands g X base n d f (λ t. Early (g .tags) (shape t))

@@ -21,7 +21,7 @@ ghost use Rattle.words.specs.Front.{meet};
 ghost use Rattle.workspace.specs.Entries.{OUTPUT, FINAL};
 ghost use Rattle.workspace.specs.Cells.{at, Sized, Inner, Written, Fits};
 ghost use Rattle.workspace.specs.Holds.{Ready, standing};
-ghost use Rattle.normalize.specs.Fronts.{size, frontAt, Fronted, Rests, Turn, Either, Settled, Started};
+ghost use Rattle.normalize.specs.Fronts.{frontSize, frontAt, Fronted, Rests, Turn, Either, Settled, Started};
 ghost use Rattle.normalize.specs.Strip.{strippedAt, Strip, Row-stripped, Steps-stripped, Finals-stripped, Normalized};
 
 // What the front of q and the step on a, with the front after it, have in common.
@@ -228,7 +228,7 @@ fn strip_steps(work: &mut [u16], g: Grid, base: usize, n: usize)
 fn strip_finals(work: &mut [u16], g: Grid, base: usize, n: usize)
     requires { ⌜ Sized g (now work) ⌝ }
     requires { ⌜ (base + n ≤ g .rows) × Fits g FINAL 0 ⌝ }
-    requires { ⌜ ((q : ℕ) → q < n → Inner g (now work) (base + q) (g .tags) FINAL × (size g (now work) base q ≤ at g (now work) (base + q) (g .tags) FINAL)) ⌝ }
+    requires { ⌜ ((q : ℕ) → q < n → Inner g (now work) (base + q) (g .tags) FINAL × (frontSize g (now work) base q ≤ at g (now work) (base + q) (g .tags) FINAL)) ⌝ }
     ensures { λ _. ⌜ Finals-stripped g (now (work .entry)) (now (work .exit)) base n ⌝ }
 {
     let mut q = 0;

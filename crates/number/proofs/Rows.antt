@@ -7,11 +7,13 @@ use mathlib.Core.List.{List, [], _++_}
 use lib.ListN.{length, getD}
 use Rattle.transducers.specs.Transducer.{puts}
 use Rattle.transducers.specs.Table.{Table, row, shape}
-use Rattle.transducers.specs.Tabulate.{Doing}
-use Rattle.transducers.specs.Merge.{class, classes, merged}
+use Rattle.transducers.specs.Canonical.{Canonical}
+use Rattle.transducers.specs.Tabulate.{Doing, Made}
+use Rattle.transducers.specs.Merge.{class, classes, merge, merged}
 use Rattle.transducers.specs.Number.{place, order, numbered, number}
 use Rattle.transducers.proofs.Tabulate.{agree-table, length-table}
-use Rattle.transducers.proofs.Number.{doing-number}
+use Rattle.transducers.proofs.Merge.{doing-merge, early-merge, apart-merge}
+use Rattle.transducers.proofs.Number.{doing-number, canonical-number}
 use Rattle.workspace.specs.declared.Grid.{Grid}
 use Rattle.workspace.specs.Entries.{NEXT, OUTPUT, FINAL}
 use Rattle.workspace.specs.Cells.{at, word, Inner, Kept, In-rows, Cell, Put, Written}
@@ -20,7 +22,7 @@ use Rattle.workspace.proofs.Regions.{kept-then, kept-wider}
 use Rattle.workspace.proofs.Words.{word-kept, written-more}
 use Rattle.workspace.proofs.Views.{in-table, output-inner, final-inner}
 use Rattle.workspace.proofs.Holds.{stepped-after, stepping-start, stepping-next, stepping-end, filling-start, filling-next, holds-doing}
-use Rattle.worklist.specs.Worklist.{memberOf, markOf, listed, List-notes, Place}
+use Rattle.worklist.specs.Worklist.{memberOf, markOf, listed, List-notes, Member}
 use Rattle.worklist.proofs.Marks.{listed-length, listed-at, listed-same, listed-marked, grown-by}
 use Rattle.number.specs.Order.{Classed, mergedAt, Lists}
 use Rattle.number.specs.Numbering.{Ordered, numberedAt, Rowing, Rows-notes, Numbered}
@@ -122,9 +124,6 @@ module _ (g : Grid) (base n : ℕ) where
 
     -- the next state is in the list, and its place is its number
     module _ (a s : ℕ) (ha : a < g .tags) (is : s ≡ shape (mergedAt g W base n) .next q a) where
-      abbrev L : List ℕ
-      L = order (mergedAt g W base n)
-
       number-is : place (listed g W base count) s ≡ numberedAt g W base n .next i a
       number-is =
           ap₂ place (ok .ordered .is) (is ∙ ap (λ (p : ℕ). shape (mergedAt g W base n) .next p a) (ok .state))
@@ -137,7 +136,7 @@ module _ (g : Grid) (base n : ℕ) where
       pub next-marked : markOf g W base s ≡ 0 → ⊥
       next-marked e = omega (arith, next-mark)
 
-      pub place-is : (p : ℕ) → Place g W base count s p → (p ≡ numberedAt g W base n .next i a) × (p < n)
+      pub place-is : (p : ℕ) → Member g W base count s p → (p ≡ numberedAt g W base n .next i a) × (p < n)
       place-is p at = (omega (arith, at .mark, next-mark), omega (arith, at .below, ok .ordered .list .low))
 
     pub step-done : (a next : ℕ) (X Y : List ℕ) → a < g .tags → next ≡ numberedAt g W base n .next i a
@@ -236,20 +235,32 @@ module _ (g : Grid) (base n : ℕ) where
     wider : Kept g W Y (Rows-notes g to ceiling base n)
     wider = kept-wider g (Rows-notes g to ceiling base n) (List-notes g base n) W Y notes (λ r c e i. inr i)
 
-    pub too-many : ceiling < count → Numbered g W Y base n to ceiling count
+    made : (d : ℕ) (f : List ℕ → List ℕ) → Doing (g .tags) d f (tableAt g W base n) → Made (g .tags) count d f (λ t. Canonical (g .tags) (shape t))
     unfolding mergedAt
-    too-many h = record { count-is = count-is; kept = wider; many = λ e. notes; holds = λ e. absurd (omega arith) }
+    made d f does =
+        let k = g .tags in
+        let t = tableAt g W base n in
+        let merged = doing-merge k d f t does (ok .early) in
+        record {
+          table = number k (mergedAt g W base n);
+          long = length-table k _ ∙ sym count-is;
+          doing = doing-number k d f (merge k t) merged;
+          so = canonical-number k d f (merge k t) merged (early-merge k d f t does (ok .early)) (apart-merge k d f t does (ok .early));
+        }
+
+    pub too-many : ceiling < count → Numbered g W Y base n to ceiling count
+    too-many h = record { kept = wider; many = λ e. notes; made = made; holds = λ d f does e. absurd (omega arith) }
 
     pub all-rows : (Z : List ℕ) → count ≤ ceiling → Filling g Y Z to count (numberedAt g Y base n) count → Numbered g W Z base n to ceiling count
-    unfolding mergedAt
+    unfolding made mergedAt
     all-rows Z h f =
         record {
-          count-is = count-is;
           kept =
               kept-then g (Rows-notes g to ceiling base n) W Y Z wider
               (kept-wider g (Rows-notes g to ceiling base n) (In-rows to (to + count)) Y Z (f .kept) (λ r c e i. inl (i .0, omega (arith, i .1))));
           many = λ e. absurd (omega arith);
-          holds = λ e.
+          made = made;
+          holds = λ d h' does e.
               subst (λ (t : Table). Holds g Z to (number (g .tags) t)) merged-Y
               (holds-doing g Z to (numberedAt g Y base n) (ordered .classed .ready .most) (puts (standing g Y base n) 0) (doing Y (ordered .classed)) (ordered .classed .ready .room)
               (omega (arith, counts Y count ordered, ok .ready .inside)) (λ q hq. f .states q (omega (arith, counts Y count ordered))));

@@ -11,7 +11,7 @@ use Rattle.transducers.specs.Merge.{class, classes, merged, merge}
 use Rattle.transducers.specs.Number.{note, noteAll, visit, order}
 use Rattle.transducers.proofs.Tabulate.{length-table, agree-table}
 use Rattle.transducers.proofs.Merge.{classes-are, doing-merge}
-use Rattle.transducers.proofs.Number.{order-below, order-length}
+use Rattle.transducers.proofs.Number.{order-below}
 use Rattle.workspace.specs.declared.Grid.{Grid}
 use Rattle.workspace.specs.Entries.{NEXT, CLASS, MEMBER, FINAL}
 use Rattle.workspace.specs.Cells.{Kept, Got}
@@ -107,9 +107,6 @@ module _ (g : Grid) (base n : ℕ) where
           is ∙ ap (class (classes (tableAt g W base n))) (e .1) ∙ sym (merged-next q a h ha),
           omega (arith, is, classes-are (g .tags) (tableAt g W base n) (ok .ready .holds .rows) (ok .ready .sound) (ok .early) .low next (in-table g W base n (ok .ready) next (e .0)), e .0),
         )
-
-    pub order-most : length (order (mergedAt g W base n)) ≤ n
-    order-most = omega (arith, order-length (g .tags) (mergedAt g W base n) (merged-doing .rows) (merged-doing .sound), merged-length)
 
     pub order-low : (i : ℕ) → i < length (order (mergedAt g W base n)) → getD (order (mergedAt g W base n)) i 0 < n
     order-low i h = omega (arith, order-below (g .tags) (mergedAt g W base n) (merged-doing .rows) (merged-doing .sound) i h, merged-length)

@@ -3,11 +3,12 @@ use Prim.Native.Nat.{ℕ, _+_, _≤_, _<_}
 use mathlib.Core.Path.{_≡_}
 use mathlib.Core.Logic.{_⊎_}
 use mathlib.Core.List.{List}
-use lib.ListN.{length, getD}
+use lib.ListN.{getD}
 use Rattle.transducers.specs.Transducer.{Shape}
 use Rattle.transducers.specs.Table.{shape}
-use Rattle.transducers.specs.Merge.{merge}
-use Rattle.transducers.specs.Number.{order, numbered, number}
+use Rattle.transducers.specs.Canonical.{Canonical}
+use Rattle.transducers.specs.Tabulate.{Doing, Made}
+use Rattle.transducers.specs.Number.{order, numbered}
 use Rattle.workspace.specs.declared.Grid.{Grid}
 use Rattle.workspace.specs.Cells.{Kept, In-rows}
 use Rattle.workspace.specs.Holds.{Holds, tableAt}
@@ -35,9 +36,10 @@ pub record Rowing (g : Grid) (W : List ℕ) (base n count to i q : ℕ) : Type 0
 abbrev pub Rows-notes : Grid → ℕ → ℕ → ℕ → ℕ → ℕ → ℕ → ℕ → Type 0
 Rows-notes g to ceiling base n r c e = In-rows to (to + ceiling) r c e ⊎ List-notes g base n r c e
 
--- the number of states, and the numbered table in the rows before if they are no more than the ceiling; else only notes have changed
+-- the number of states of the canonical table that does the same, and that table in the rows before if they are no more than the ceiling;
+-- else only notes have changed
 pub record Numbered (g : Grid) (W X : List ℕ) (base n to ceiling count : ℕ) : Type 0 where
-  pub count-is : count ≡ length (order (merge (g .tags) (tableAt g W base n)))
   pub kept : Kept g W X (Rows-notes g to ceiling base n)
   pub many : ceiling < count → Kept g W X (List-notes g base n)
-  pub holds : count ≤ ceiling → Holds g X to (number (g .tags) (merge (g .tags) (tableAt g W base n)))
+  pub made : (d : ℕ) (f : List ℕ → List ℕ) → Doing (g .tags) d f (tableAt g W base n) → Made (g .tags) count d f (λ t. Canonical (g .tags) (shape t))
+  pub holds : (d : ℕ) (f : List ℕ → List ℕ) (does : Doing (g .tags) d f (tableAt g W base n)) → count ≤ ceiling → Holds g X to (made d f does .table)

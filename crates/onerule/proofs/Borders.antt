@@ -12,20 +12,7 @@ use lib.ListN.{length, getD, take, drop, length-append, length-drop, List·getD-
 use lib.Seq.{drop-cons, getD-take, getD-at, length-take-le}
 use Rattle.words.specs.Word.{prefix}
 use Rattle.words.specs.Overlap.{overlap}
-
-same-tag : (a b : ℕ) (u w : List ℕ) → a ≡ b → prefix (a ∷ u) (b ∷ w) ≡ prefix u w
-same-tag a b u w e = cc (eq-eqb a b e)
-
-other-tag : (a b : ℕ) (u w : List ℕ) → (a ≡ b → ⊥) → prefix (a ∷ u) (b ∷ w) ≡ false
-other-tag a b u w e = cc (ne-eqb a b e)
-
-module _ (t u : List ℕ) (i j : ℕ) (hi : i < length t) (hj : j < length u) where
-  prefix-same : getD t i 0 ≡ getD u j 0 → prefix (drop i t) (drop j u) ≡ prefix (drop (i + 1) t) (drop (j + 1) u)
-  prefix-same e =
-      rw (add-one i, add-one j, drop-cons t i 0 hi, drop-cons u j 0 hj) (same-tag (getD t i 0) (getD u j 0) (drop (suc i) t) (drop (suc j) u) e)
-
-  prefix-other : (getD t i 0 ≡ getD u j 0 → ⊥) → prefix (drop i t) (drop j u) ≡ false
-  prefix-other e = rw (drop-cons t i 0 hi, drop-cons u j 0 hj) (other-tag (getD t i 0) (getD u j 0) (drop (suc i) t) (drop (suc j) u) e)
+use Rattle.words.proofs.Word.{prefix-next, prefix-stops}
 
 -- the first j tags of u, and a after them
 abbrev pub matched : List ℕ → ℕ → ℕ → List ℕ
@@ -47,12 +34,12 @@ module _ (u : List ℕ) (j a : ℕ) (hj : j < length u) where
     match-next h e =
         let up : s + i + 1 ≡ s + (i + 1) = omega arith in
         before
-        ∙ prefix-same (matched u j a) u (s + i) i (omega (arith, matched-length)) (omega arith) (matched-at (s + i) h ∙ e)
+        ∙ prefix-next (matched u j a) u (s + i) i (omega (arith, matched-length)) (omega arith) (matched-at (s + i) h ∙ e)
         ∙ ap (λ (n : ℕ). prefix (drop n (matched u j a)) (drop (i + 1) u)) up
 
     pub match-other : s + i < j → (getD u (s + i) 0 ≡ getD u i 0 → ⊥) → false ≡ prefix (drop s (matched u j a)) u
     match-other h e =
-        sym (before ∙ prefix-other (matched u j a) u (s + i) i (omega (arith, matched-length)) (omega arith) (λ d. e (sym (matched-at (s + i) h) ∙ d)))
+        sym (before ∙ prefix-stops (matched u j a) u (s + i) i (omega (arith, matched-length)) (omega arith) (λ d. e (sym (matched-at (s + i) h) ∙ d)))
 
     pub match-last : s + i ≡ j → eqb (getD u i 0) a ≡ prefix (drop s (matched u j a)) u
     match-last h = by (ℕ-discrete (getD u i 0) a)
@@ -69,11 +56,11 @@ module _ (u : List ℕ) (j a : ℕ) (hj : j < length u) where
         by : Dec (getD u i 0 ≡ a) → eqb (getD u i 0) a ≡ prefix (drop s t) u
         by (yes e) =
             eq-eqb (getD u i 0) a e
-            ∙ sym (before ∙ prefix-same t u (s + i) i (omega (arith, matched-length)) (omega arith) (here ∙ sym e)
+            ∙ sym (before ∙ prefix-next t u (s + i) i (omega (arith, matched-length)) (omega arith) (here ∙ sym e)
             ∙ ap (λ (l : List ℕ). prefix l (drop (i + 1) u)) after)
         by (no n) =
             ne-eqb (getD u i 0) a n
-            ∙ sym (before ∙ prefix-other t u (s + i) i (omega (arith, matched-length)) (omega arith) (λ d. n (sym d ∙ here)))
+            ∙ sym (before ∙ prefix-stops t u (s + i) i (omega (arith, matched-length)) (omega arith) (λ d. n (sym d ∙ here)))
 
   pub match-start : (s : ℕ) → prefix (drop s (matched u j a)) u ≡ prefix (drop (s + 0) (matched u j a)) (drop 0 u)
   match-start s = let e : s ≡ s + 0 = omega arith in ap (λ (n : ℕ). prefix (drop n (matched u j a)) u) e

@@ -22,7 +22,7 @@ use Rattle.workspace.specs.Entries.{FINAL}
 use Rattle.workspace.specs.Cells.{part}
 use Rattle.workspace.specs.Holds.{Roomy}
 use Rattle.workspace.proofs.Appending.{part-length}
-use Rattle.onerule.specs.Rule.{rule, goes, says, holds}
+use Rattle.onerule.specs.Rule.{rule, goes, says, keeps}
 use Rattle.onerule.proofs.Borders.{matched, matched-length}
 
 part-lesser : (u : List ℕ) (p j : ℕ) → j ≤ length u → part (min p j) j u ≡ part p j u
@@ -64,13 +64,13 @@ module _ (u : List ℕ) (p b : ℕ) where
       by (yes e) = omega (arith, goes-end j a e)
       by (no g) = let l : j < length u = omega arith in omega (arith, goes-is j a l, overlap-below j a l .1)
 
-  held-part : (j : ℕ) → j < length u → holds (rule u p b) j ≡ part p j u
+  held-part : (j : ℕ) → j < length u → keeps (rule u p b) j ≡ part p j u
   held-part j h = held-in u p b j h
 
-  pub held-lesser : (j : ℕ) → j < length u → part (min p j) j u ≡ holds (rule u p b) j
+  pub held-lesser : (j : ℕ) → j < length u → part (min p j) j u ≡ keeps (rule u p b) j
   held-lesser j h = part-lesser u p j (omega arith) ∙ sym (held-part j h)
 
-  pub held-none : (j : ℕ) → j ≡ length u → [] ≡ holds (rule u p b) j
+  pub held-none : (j : ℕ) → j ≡ length u → [] ≡ keeps (rule u p b) j
   held-none j e = sym (held-all u p b j e)
 
   pub says-end : (j a : ℕ) → j ≡ length u → a ∷ [] ≡ says (rule u p b) j a
@@ -94,7 +94,7 @@ module _ (u : List ℕ) (p b : ℕ) where
         let short : next < length u = omega (arith, e, next-is, overlap-below j a h .1) in
         let i = overlap u (matched u j a) in
         said-on u p b j a i h (omega (arith, next-is))
-        ∙ ap₂ (λ (x y : List ℕ). take (suc (length x) - length y) (x ++ (a ∷ []))) (held-part j h) (ap (λ (q : ℕ). holds (rule u p b) q) (sym next-is) ∙ held-part next short)
+        ∙ ap₂ (λ (x y : List ℕ). take (suc (length x) - length y) (x ++ (a ∷ []))) (held-part j h) (ap (λ (q : ℕ). keeps (rule u p b) q) (sym next-is) ∙ held-part next short)
 
     pub says-short : (next ≡ length u → ⊥) → p < next → part p (p + (j + 1 - next)) u ≡ says (rule u p b) j a
     says-short e lt =

@@ -1,17 +1,15 @@
 -- A rule whose transducer is to be written to the work slice.
 use Prim.Native.Nat.{ℕ, _+_, _-_, _≤_, _<_}
-use mathlib.Core.Path.{_≡_}
 use mathlib.Core.List.{List}
 use lib.ListN.{length}
 use Rattle.cascades.specs.Rule.{Rule, ValidRule}
 use Rattle.cascades.specs.Rewrite.{apply}
-use Rattle.transducers.specs.Table.{Table}
-use Rattle.transducers.specs.Tabulate.{Doing}
+use Rattle.transducers.specs.Tabulate.{Any}
 use Rattle.minimal.specs.OneRule.{oneRule}
 use Rattle.workspace.specs.declared.Grid.{Grid}
 use Rattle.workspace.specs.Entries.{FINAL}
 use Rattle.workspace.specs.Cells.{Sized, Kept, In-rows}
-use Rattle.workspace.specs.Holds.{Holds}
+use Rattle.workspace.specs.Holds.{Stands}
 
 abbrev pub rule : List ℕ → ℕ → ℕ → Rule
 rule u p b = record { pattern = u; place = p; tag = b }
@@ -23,8 +21,8 @@ goes r j a = oneRule r .next j a
 abbrev pub says : Rule → ℕ → ℕ → List ℕ
 says r j a = oneRule r .output j a
 
-abbrev pub holds : Rule → ℕ → List ℕ
-holds r j = oneRule r .final j
+abbrev pub keeps : Rule → ℕ → List ℕ
+keeps r j = oneRule r .final j
 
 -- the place is in the pattern, and the cells have room for the words
 pub record Room (g : Grid) (W : List ℕ) (r : Rule) : Type 0 where
@@ -32,11 +30,8 @@ pub record Room (g : Grid) (W : List ℕ) (r : Rule) : Type 0 where
   pub place-inside : r .place < length (r .pattern)
   pub deep : length (r .pattern) + FINAL ≤ g .depth
 
--- the rows from base hold a table of so many states that does what the rule does, and holds at most one tag less than the pattern has
+-- the rows from base hold a table of so many states that does what the rule does, and holds at most one tag less than a pattern may have
 pub record Ruled (g : Grid) (W X : List ℕ) (base count : ℕ) (r : Rule) : Type 0 where
-  pub table : Table
-  pub long : length table ≡ count
   pub few : count ≤ length (r .pattern) + 1
-  pub holds : Holds g X base table
-  pub doing : (l : ℕ) → ValidRule l (g .tags) r → Doing (g .tags) (l - 1) (apply r) table
   pub kept : Kept g W X (In-rows base (base + count))
+  pub stands : (l : ℕ) → ValidRule l (g .tags) r → Stands g X base count (l - 1) (apply r) Any

@@ -22,7 +22,7 @@ ghost use Rattle.minimal.specs.OneRule.{oneRule};
 ghost use Rattle.workspace.specs.Entries.{OUTPUT, FINAL};
 ghost use Rattle.workspace.specs.Cells.{at, word, Sized, Written, part};
 ghost use Rattle.workspace.specs.Holds.{Stepped, Stepping, Rowed};
-ghost use Rattle.onerule.specs.Rule.{rule, goes, says, holds, Room, Ruled};
+ghost use Rattle.onerule.specs.Rule.{rule, goes, says, keeps, Room, Ruled};
 
 // Whether the tags of the pattern u from s to j, and a after them, are the first ones of u.
 fn overlaps(u: &[u8], j: usize, a: usize, s: usize) -> bool
@@ -157,7 +157,7 @@ fn write_steps(work: &mut [u16], g: Grid, r: usize, u: &[u8], place: usize, tag:
 fn write_final(work: &mut [u16], g: Grid, r: usize, u: &[u8], place: usize, tag: u8, j: usize)
     requires { ⌜ Room g (now work) (rule (now u) place tag) ⌝ }
     requires { ⌜ (r < g .rows) × (j ≤ length (now u)) ⌝ }
-    ensures { λ _. ⌜ Written g (now (work .entry)) (now (work .exit)) r (g .tags) FINAL (holds (rule (now (u .entry)) place tag) j) ⌝ }
+    ensures { λ _. ⌜ Written g (now (work .entry)) (now (work .exit)) r (g .tags) FINAL (keeps (rule (now (u .entry)) place tag) j) ⌝ }
 {
     clear(work, g, r, g.tags, FINAL);
     if j == u.len() {

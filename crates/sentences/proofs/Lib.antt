@@ -1,2 +1,2 @@
 -- Laws that the functions' proofs cite.
-pub mod Laws
+pub mod Run

@@ -1,12 +1,12 @@
 // The proof sheet: where a result differs from its sentence.
 ghost use mathlib.Core.Path.{_≡_};
 ghost use lib.ListN.{length};
-ghost use Rattle.spans.specs.Span.{first, last, span, IsSpan};
+ghost use Rattle.spans.specs.Span.{firstDifference, lastDifference, span, IsSpan};
 
 // The first place at which the two words differ; their length where there is none.
 fn first_difference(v: &[u8], w: &[u8]) -> usize
     requires { ⌜ length (now v) ≡ length (now w) ⌝ }
-    ensures { λ r. ⌜ r ≡ first (now (v .entry)) (now (w .entry)) ⌝ }
+    ensures { λ r. ⌜ r ≡ firstDifference (now (v .entry)) (now (w .entry)) ⌝ }
 {
     let mut i = 0;
     while i < v.len() {
@@ -21,7 +21,7 @@ fn first_difference(v: &[u8], w: &[u8]) -> usize
 // One more than the last place at which the two words differ; 0 where there is none.
 fn last_difference(v: &[u8], w: &[u8]) -> usize
     requires { ⌜ length (now v) ≡ length (now w) ⌝ }
-    ensures { λ r. ⌜ r ≡ last (now (v .entry)) (now (w .entry)) ⌝ }
+    ensures { λ r. ⌜ r ≡ lastDifference (now (v .entry)) (now (w .entry)) ⌝ }
 {
     let mut end = v.len();
     while 0 < end {

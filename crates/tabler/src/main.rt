@@ -1,8 +1,8 @@
 // Compiles a book of at most four tags and two rules, raw bytes on standard input, with ceiling 16: writes the table's states, its length and
 // its bytes; or `refused` with the number, and i for 10; or `too big`.
+use answers::CompileAnswer;
 use answers::Refusal;
 use books::BookAnswer;
-use compiler::CompileAnswer;
 use libc::STDIN_FILENO;
 use printing::put;
 use printing::put_byte;

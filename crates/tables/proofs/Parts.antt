@@ -1,21 +1,21 @@
 -- The parts of a table, read and encoded: steps and states.
-use Prim.Native.Nat.{ℕ, zero, suc, _+_, _*_, _<_, _≤_}
+use Prim.Native.Nat.{ℕ, zero, suc, _+_, _<_, _≤_}
 use native.Mathlib.Omega.{arith}
 use mathlib.Core.Path.{_≡_, refl, sym, ap, subst, _∙_}
 use mathlib.Core.Bool.{Bool, true, false}
 use mathlib.Core.List.{List, [], _∷_, _++_, append-assoc}
-use borrow.Author.Tests.{eq-eqb, ne-eqb, le-leb, lt-leb, lt-ltb, le-ltb, eqb-true, leb-true, ltb-true}
+use borrow.Author.Tests.{eq-eqb, le-leb, lt-ltb, eqb-true, leb-true, ltb-true}
 use lib.Dec.{eqb, leb, ltb}
-use lib.ListN.{length, drop, getD, length-append}
+use lib.ListN.{length, drop, getD}
 use lib.Seq.{drop-append-seam}
 use Rattle.words.specs.Word.{Below}
 use Rattle.words.proofs.Word.{below-drop}
 use Rattle.limits.specs.Limits.{most-held}
-use Rattle.answers.specs.Outcome.{Outcome, result, refused, nothing, andThen, provided}
-use Rattle.transducers.specs.Table.{Step, Row, Table}
+use Rattle.answers.specs.Outcome.{Outcome, result, refused, andThen, provided}
+use Rattle.transducers.specs.Table.{Step, Row}
 use Rattle.tables.specs.Bytes.{number, high, low, tagged, joined, stepBytes, rowBytes}
-use Rattle.tables.specs.Decode.{malformed, word, many, readStep, readRow}
-use Rattle.tables.proofs.Words.{Begins, begins-append, begins-of, word-begins, word-below, Stops, word-tagged, number-bytes, high-number, low-number}
+use Rattle.tables.specs.Decode.{word, many, readStep, readRow}
+use Rattle.tables.proofs.Words.{Begins, begins-append, word-begins, word-below, Stops, word-tagged, number-bytes, high-number, low-number}
 
 -- a test that was passed, and a part that was read
 pub passed : {A : Type 0} (b : Bool) (o : Outcome A) (v : A) → provided 12 b o ≡ result v → (b ≡ true) × (o ≡ result v)

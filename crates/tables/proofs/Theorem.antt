@@ -1,21 +1,21 @@
 -- The theorem on tables and bytes: `decode` answers a table exactly if the table is valid and the bytes are its encoding.
-use Prim.Native.Nat.{ℕ, zero, suc, _+_, _*_, _<_, _≤_}
+use Prim.Native.Nat.{ℕ, _+_, _<_, _≤_}
 use native.Mathlib.Omega.{arith}
-use mathlib.Core.Path.{_≡_, refl, sym, ap, subst, _∙_}
+use mathlib.Core.Path.{_≡_, refl, ap, _∙_}
 use mathlib.Core.Bool.{Bool, true, false}
 use mathlib.Core.Logic.{_↔_}
 use mathlib.Core.List.{List, [], _∷_, _++_}
 use borrow.Author.Tests.{eq-eqb, le-leb, eqb-true, leb-true}
 use lib.Dec.{eqb, leb}
-use lib.ListN.{length, drop, getD}
+use lib.ListN.{length, drop}
 use lib.Seq.{drop-append-seam}
 use Rattle.words.specs.Word.{Below}
 use Rattle.limits.specs.Limits.{fewest-tags, most-tags, most-states}
-use Rattle.answers.specs.Outcome.{Outcome, result, refused, nothing, andThen}
-use Rattle.transducers.specs.Table.{Step, Row, Table, row, step, no-step, no-row}
+use Rattle.answers.specs.Outcome.{result}
+use Rattle.transducers.specs.Table.{Step, Row, Table, row, no-step, no-row}
 use Rattle.tables.specs.Valid.{ValidTable}
 use Rattle.tables.specs.Bytes.{number, high, low, joined, rowBytes, encode}
-use Rattle.tables.specs.Decode.{Decoded, malformed, many, readStep, readRow, readTable, decode, ended, stepsBalanced, rowsBalanced}
+use Rattle.tables.specs.Decode.{Decoded, many, readRow, readTable, decode, ended, stepsBalanced, rowsBalanced}
 use Rattle.tables.proofs.Words.{Stops, number-bytes, high-number, low-number}
 use Rattle.tables.proofs.Parts.{passed, went, Every, every-at, every-of, GoodStep, GoodRow, many-read, many-encoded, row-read, row-encoded}
 

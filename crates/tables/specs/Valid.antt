@@ -3,7 +3,7 @@
 -- final word of the state", at most 80.
 use Prim.Native.Nat.{ℕ, _+_, _≤_, _<_}
 use mathlib.Core.Path.{_≡_}
-use mathlib.Core.List.{List, []}
+use mathlib.Core.List.{[]}
 use lib.ListN.{length}
 use Rattle.words.specs.Word.{Below}
 use Rattle.limits.specs.Limits.{fewest-tags, most-tags, most-states, most-held}

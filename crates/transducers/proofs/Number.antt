@@ -15,7 +15,7 @@ use Rattle.transducers.specs.Transducer.{Shape, puts}
 use Rattle.transducers.specs.Table.{Step, Table, no-step, row, shape}
 use Rattle.transducers.specs.Run.{walk}
 use Rattle.transducers.specs.Canonical.{Same, Inside, Early, Reached, Apart, Sound, Canonical}
-use Rattle.transducers.specs.Numbered.{Before, Earlier, Numbered}
+use Rattle.transducers.specs.Numbered.{Before, Earlier, AsReached}
 use Rattle.transducers.specs.Tabulate.{Rows, Doing}
 use Rattle.transducers.specs.Number.{place, note, noteAll, visit, order, numbered, number}
 use Rattle.transducers.proofs.Run.{walk-append, earlier-in, earlier-place}
@@ -411,7 +411,7 @@ module _ (k : ℕ) (t : Table) (rows : Rows k t) (sound : Sound k (shape t)) whe
           let e = w .1 ∙ ap (λ (s : ℕ). walk (shape t) s (r .word)) (ordered .members .start) ∙ r .leads in
           record { word = r .word; below = r .below; leads = ordered .members .apart (walk S 0 (r .word)) q (w .0) h e }
 
-      earlier : Numbered k S
+      earlier : AsReached k S
       earlier p a q hp ha pos lt =
           let f = ordered .done p a hp ha (inl hp) in
           let e = next-at p a hp ha in

@@ -10,7 +10,7 @@ use Rattle.transducers.specs.Transducer.{Shape, puts}
 use Rattle.transducers.specs.Table.{Step, Row, Table, no-step, no-row, row, step, shape}
 use Rattle.transducers.specs.Run.{walk}
 use Rattle.transducers.specs.Canonical.{Same, Inside, Early, Minimal, Sound, Held, Canonical, Agree}
-use Rattle.transducers.specs.Numbered.{Numbered}
+use Rattle.transducers.specs.Numbered.{AsReached}
 use Rattle.transducers.proofs.Run.{earlier-in, earlier-place}
 use Rattle.transducers.specs.Tabulate.{tabulate, stepOf, rowOf, table, Rows, Doing}
 
@@ -100,7 +100,7 @@ module _ (k : ℕ) (S T : Shape) (agree : Agree k S T) (inside : Inside k S) whe
             ∙ sym (puts-agree q (back q hq) x hx);
       }
 
-  numbered-agree : Numbered k S → Numbered k T
+  numbered-agree : AsReached k S → AsReached k T
   numbered-agree n p a q hp ha pos lt =
       let e = n p a q (back p hp) ha pos (rw (agree .nexts p a (back p hp) ha) lt) in
       let place = earlier-place k S p a q e in

@@ -7,7 +7,7 @@ use Rattle.words.specs.Word.{Below}
 use Rattle.words.specs.Front.{first}
 use Rattle.transducers.specs.Transducer.{Shape, puts}
 use Rattle.transducers.specs.Run.{walk}
-use Rattle.transducers.specs.Numbered.{Numbered}
+use Rattle.transducers.specs.Numbered.{AsReached}
 
 -- P and Q answer alike on every word
 abbrev pub Same : ℕ → (List ℕ → List ℕ) → (List ℕ → List ℕ) → Type 0
@@ -60,7 +60,7 @@ Held d S = (q : ℕ) → q < S .count → length (S .final q) ≤ d
 pub record Canonical (k : ℕ) (S : Shape) : Type 0 where
   pub some : 0 < S .count
   pub minimal : Minimal k S
-  pub numbered : Numbered k S
+  pub numbered : AsReached k S
 
 -- equal at every state and tag in range
 pub record Agree (k : ℕ) (S T : Shape) : Type 0 where

@@ -17,5 +17,5 @@ pub record Earlier (k : ℕ) (S : Shape) (p a q : ℕ) : Type 0 where
   pub leads : S .next state tag ≡ q
 
 -- "States are numbered as first reached from state 0": where a step leads to a state, earlier steps have led to all lower ones but 0
-abbrev pub Numbered : ℕ → Shape → Type 0
-Numbered k S = (p a q : ℕ) → p < S .count → a < k → 0 < q → q < S .next p a → Earlier k S p a q
+abbrev pub AsReached : ℕ → Shape → Type 0
+AsReached k S = (p a q : ℕ) → p < S .count → a < k → 0 < q → q < S .next p a → Earlier k S p a q

@@ -26,9 +26,20 @@ table k S = tabulate (S .count) 0 (rowOf k S)
 abbrev pub Rows : ℕ → Table → Type 0
 Rows k t = (q : ℕ) → q < length t → length (row t q .steps) ≡ k
 
--- a table of rows of k steps that does f, and no state of which holds more than d tags: what every phase hands on
+-- a table of rows of k steps that does f, and no state of which holds more than d tags
 pub record Doing (k d : ℕ) (f : List ℕ → List ℕ) (t : Table) : Type 0 where
   pub rows : Rows k t
   pub sound : Sound k (shape t)
   pub held : Held d (shape t)
   pub does : Same k (puts (shape t) 0) f
+
+-- what a phase makes: a table of n states that does f, no state of which holds more than d tags, and of which P
+pub record Made (k n d : ℕ) (f : List ℕ → List ℕ) (P : Table → Type 0) : Type 0 where
+  pub table : Table
+  pub long : length table ≡ n
+  pub doing : Doing k d f table
+  pub so : P table
+
+-- nothing more is said of it
+abbrev pub Any : Table → Type 0
+Any t = Unit {0}

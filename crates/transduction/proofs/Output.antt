@@ -4,16 +4,16 @@ use native.Mathlib.Numerals.{add-one}
 use native.Mathlib.Nat.{add-zero}
 use native.Mathlib.Omega.{arith}
 use mathlib.Core.Path.{_≡_, refl, sym, ap, _∙_}
-use mathlib.Core.List.{List, [], _∷_, _++_, append-nil}
+use mathlib.Core.List.{List, [], _∷_, append-nil}
 use lib.ListN.{length, take, drop, getD, set, length-set}
 use lib.Seq.{drop-drop, take-suc-set, take-set-le, drop-set-lt, take-length, paste, paste-suc, take-paste, drop-paste}
-use Rattle.decoder.specs.Index.{tagOf, countOf, placeOf, Stands, Cell}
-use Rattle.transduction.specs.Parts.{Put}
+use Rattle.steps.specs.Entry.{tagOf, countOf, placeOf, TagsAt, EntryOf}
+use Rattle.transduction.specs.Parts.{WordPut}
 
 -- a turn of the loop that puts a word
 pub put-next :
     (bs out now w : List ℕ) (place at j : ℕ)
-    → Stands bs place w
+    → TagsAt bs place w
     → at + length w ≤ length out
     → j < length w
     → now ≡ paste out at w j
@@ -26,7 +26,7 @@ module _ (out : List ℕ) (at : ℕ) (inside : at < length out) where
   kept-set : (v c : ℕ) → at < c → drop c (set out at v) ≡ drop c out
   kept-set v c h = drop-set-lt c out at v h
 
-  pub put-none : (v : ℕ) → Put out (set out at v) at [] at
+  pub put-none : (v : ℕ) → WordPut out (set out at v) at [] at
   put-none v =
       record {
         end = omega arith;
@@ -34,7 +34,7 @@ module _ (out : List ℕ) (at : ℕ) (inside : at < length out) where
         kept = λ c h g. kept-set v c h;
       }
 
-  pub put-one : (v a : ℕ) → v ≡ a → Put out (set out at v) at (a ∷ []) (at + 1)
+  pub put-one : (v a : ℕ) → v ≡ a → WordPut out (set out at v) at (a ∷ []) (at + 1)
   put-one v a e =
       record {
         end = omega arith;
@@ -42,7 +42,7 @@ module _ (out : List ℕ) (at : ℕ) (inside : at < length out) where
         kept = λ c h g. kept-set v c h;
       }
 
-  pub put-more : (v : ℕ) (w : List ℕ) → at + length w ≤ length out → Put out (paste (set out at v) at w (length w)) at w (at + length w)
+  pub put-more : (v : ℕ) (w : List ℕ) → at + length w ≤ length out → WordPut out (paste (set out at v) at w (length w)) at w (at + length w)
   put-more v w room =
       let d = set out at v in
       let long : at ≤ length d = simp length-set (omega arith) in
@@ -65,13 +65,13 @@ module _ (out : List ℕ) (at : ℕ) (inside : at < length out) where
       }
 
   -- the word of an entry
-  module _ (bs w : List ℕ) (base e : ℕ) (cell : Cell bs base w e) (short : length w < 0xff) where
-    few-case : (v : ℕ) (u : List ℕ) → length u < 2 → (0 < length u → v ≡ getD u 0 0) → Put out (set out at v) at u (at + length u)
+  module _ (bs w : List ℕ) (base e : ℕ) (cell : EntryOf bs base w e) (short : length w < 0xff) where
+    few-case : (v : ℕ) (u : List ℕ) → length u < 2 → (0 < length u → v ≡ getD u 0 0) → WordPut out (set out at v) at u (at + length u)
     few-case v [] h f = rw add-zero (put-none v)
     few-case v (a ∷ []) h f = put-one v a (f (omega arith))
     few-case v (a ∷ b ∷ u) h f = absurd (omega arith)
 
-    pub put-few : (count : ℕ) → count ≡ countOf e → count < 2 → Put out (set out at (tagOf e)) at w (at + count)
+    pub put-few : (count : ℕ) → count ≡ countOf e → count < 2 → WordPut out (set out at (tagOf e)) at w (at + count)
     put-few count c h =
         let n : count ≡ length w = omega (arith, cell .count-is) in
         rw n (few-case (tagOf e) w (omega arith) (λ g. cell .tag-is (omega (arith, h, n))))
@@ -82,8 +82,8 @@ module _ (out : List ℕ) (at : ℕ) (inside : at < length out) where
         → 2 ≤ count
         → place ≡ placeOf e
         → at + count ≤ length out
-        → ((u : List ℕ) → length u ≡ count → Stands bs place u → out' ≡ paste (set out at v) at u count)
-        → Put out out' at w (at + count)
+        → ((u : List ℕ) → length u ≡ count → TagsAt bs place u → out' ≡ paste (set out at v) at u count)
+        → WordPut out out' at w (at + count)
     put-many v count place out' c many p room f =
         let n : count ≡ length w = omega (arith, cell .count-is) in
         let e : out' ≡ paste (set out at v) at w count = f w (sym n) (rw p (cell .stands (λ o. omega arith))) in

@@ -1,5 +1,5 @@
 -- What a run answers and writes, and what reading a table answers.
-use Prim.Native.Nat.{ℕ, _≤_}
+use Prim.Native.Nat.{ℕ}
 use native.Mathlib.Omega.{arith}
 use mathlib.Core.Path.{_≡_, refl, sym, ap, _∙_}
 use mathlib.Core.Bool.{Bool, true, false}
@@ -18,7 +18,7 @@ use Rattle.sentences.specs.Run.{run, changed, Accepted, Ran}
 use Rattle.sentences.specs.Admission.{admission}
 use Rattle.sentences.specs.declared.Admission.{Admission}
 use Rattle.sentences.specs.declared.Admission.the-variants.{Admitted}
-use Rattle.sentences.proofs.Laws.{run-accepts, accepted-run, ran-refused, ran-changed}
+use Rattle.sentences.proofs.Run.{run-accepts, accepted-run, ran-refused, ran-changed}
 use Rattle.transducers.specs.Transducer.{puts}
 use Rattle.transducers.specs.Table.{shape}
 use Rattle.tables.specs.Decode.{Decoded, decode, malformed}
@@ -27,9 +27,9 @@ use Rattle.tables.proofs.Theorem.{decoded, table-read}
 use Rattle.tables.proofs.Outcomes.{Read, gave, refuses, read-decode}
 use Rattle.tables.proofs.Transduction.{run-length}
 use Rattle.decoder.specs.Answer.{tableOutcome}
-use Rattle.decoder.specs.Index.{Loaded, LoadedIf, Head, HeadRead}
+use Rattle.decoder.specs.Index.{Loaded, LoadedIf, HeadRead}
 use Rattle.decoder.specs.declared.TableAnswer.{TableAnswer}
-use Rattle.transduction.specs.Parts.{Ready, made}
+use Rattle.transduction.specs.Parts.{Runnable, made}
 
 -- an admitted sentence has tags below k and room for its result
 admitted : (k : ℕ) (sentence : List ℕ) (room : ℕ) (r : Admission) → r ≡ Admitted → ((m : List ℕ) → admission r m ≡ run k sentence room m) → Accepted k sentence room
@@ -63,7 +63,7 @@ module _ (bs sentence out : List ℕ) where
         ran-refused outcome sentence out r (g ∙ sym runs)
 
     module _ (e : a ≡ Admitted) where
-      pub run-ready : Ready bs ix sentence out
+      pub run-ready : Runnable bs ix sentence out
       run-ready =
           let t = admitted k sentence (length out) a e f in
           record { tags = k; loaded = u; below = t .below; room = t .fits }

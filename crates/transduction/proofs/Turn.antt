@@ -13,9 +13,9 @@ use Rattle.transducers.specs.Transducer.{puts}
 use Rattle.transducers.specs.Table.{Step, Table, row, step, shape}
 use Rattle.tables.specs.Valid.{ValidTable}
 use Rattle.tables.specs.Decode.{Decoded, decode}
-use Rattle.decoder.specs.Index.{countOf, placeOf, baseOf, Stands, Cell, FinalCell}
-use Rattle.decoder.proofs.Places.{row-inside}
-use Rattle.transduction.specs.Parts.{Put, Ready, made}
+use Rattle.steps.specs.Entry.{countOf, placeOf, baseOf, TagsAt, EntryOf, FinalEntry}
+use Rattle.steps.proofs.Places.{row-inside}
+use Rattle.transduction.specs.Parts.{WordPut, Runnable, made}
 
 -- the transducer is in a state, and what it put out stands in front
 pub record Running (k : ℕ) (t : Table) (sentence out : List ℕ) (i at base : ℕ) : Type 0 where
@@ -37,13 +37,13 @@ running-start k t sentence out v =
 
 -- what the run's loop keeps
 pub record Going (bs ix sentence out₀ out : List ℕ) (i at base : ℕ) : Type 0 where
-  pub ready : Ready bs ix sentence out₀
+  pub ready : Runnable bs ix sentence out₀
   pub inside : i ≤ length sentence
   pub long : length out ≡ length out₀
   pub kept : drop (length sentence) out ≡ drop (length sentence) out₀
   pub running : Running (ready .tags) (ready .loaded .table) sentence out i at base
 
-pub going-start : (bs ix sentence out : List ℕ) → Ready bs ix sentence out → Going bs ix sentence out out 0 0 1
+pub going-start : (bs ix sentence out : List ℕ) → Runnable bs ix sentence out → Going bs ix sentence out out 0 0 1
 going-start bs ix sentence out p =
     record {
       ready = p;
@@ -55,7 +55,7 @@ going-start bs ix sentence out p =
 
 -- a turn of the run: the sentence's tag at i is read in the state
 module _ {bs ix sentence out₀ out : List ℕ} {i at base : ℕ} (g : Going bs ix sentence out₀ out i at base) where
-  abbrev p : Ready bs ix sentence out₀
+  abbrev p : Runnable bs ix sentence out₀
   p = g .ready
 
   abbrev r : Running (g .ready .tags) (g .ready .loaded .table) sentence out i at base
@@ -90,7 +90,7 @@ module _ {bs ix sentence out₀ out : List ℕ} {i at base : ℕ} (g : Going bs 
     balance = p .loaded .valid .balanced q a (r .below) a-below
 
     module _ (e : ℕ) (entry : e ≡ getD ix (base + a) 0) where
-      pub turn-cell : Cell bs (v .next * (k + 1) + 1) (v .output) e
+      pub turn-cell : EntryOf bs (v .next * (k + 1) + 1) (v .output) e
       turn-cell =
           let at-cell : base + a ≡ q * (k + 1) + 1 + a = omega (arith, r .based) in
           rw (entry, at-cell) (p .loaded .cells q (r .below) .steps a a-below)
@@ -107,7 +107,7 @@ module _ {bs ix sentence out₀ out : List ℕ} {i at base : ℕ} (g : Going bs 
       pub turn-count : at + countOf e ≤ length out
       turn-count = omega (arith, r .placed, p .room, g .long, balance, turn-cell .count-is)
 
-      module _ (out' : List ℕ) (at' : ℕ) (put : Put out out' at (v .output) at') where
+      module _ (out' : List ℕ) (at' : ℕ) (put : WordPut out out' at (v .output) at') where
         running-next : (base' : ℕ) → base' ≡ baseOf e → Running k t sentence out' (i + 1) at' base'
         running-next base' b =
             let next = v .next in
@@ -147,7 +147,7 @@ module _ {bs ix sentence out₀ out : List ℕ} {i at base : ℕ} (g : Going bs 
       abbrev w : List ℕ
       w = row t q .final
 
-      end-cell : FinalCell bs w e
+      end-cell : FinalEntry bs w e
       end-cell =
           let at-cell : base - 1 ≡ q * (k + 1) = omega (arith, r .based) in
           rw (entry, at-cell) (p .loaded .cells q (r .below) .final)
@@ -165,7 +165,7 @@ module _ {bs ix sentence out₀ out : List ℕ} {i at base : ℕ} (g : Going bs 
           (place count : ℕ) (out' : List ℕ)
           → place ≡ placeOf e
           → count ≡ countOf e
-          → ((u : List ℕ) → length u ≡ count → Stands bs place u → out' ≡ paste out at u count)
+          → ((u : List ℕ) → length u ≡ count → TagsAt bs place u → out' ≡ paste out at u count)
           → out' ≡ made (decode bs) sentence ++ drop (length sentence) out₀
       end-made place count out' p≡ c≡ f =
           let n : length w ≡ count = omega (arith, end-length) in

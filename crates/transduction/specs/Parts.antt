@@ -11,13 +11,13 @@ use Rattle.tables.specs.Decode.{Decoded}
 use Rattle.decoder.specs.Index.{Loaded}
 
 -- a word was put to the output from one place to another; what lies after both is kept
-pub record Put (out out' : List ℕ) (at : ℕ) (w : List ℕ) (to : ℕ) : Type 0 where
+pub record WordPut (out out' : List ℕ) (at : ℕ) (w : List ℕ) (to : ℕ) : Type 0 where
   pub end : to ≡ at + length w
   pub front : take to out' ≡ take at out ++ w
   pub kept : (c : ℕ) → at < c → to ≤ c → drop c out' ≡ drop c out
 
 -- a sentence can be run: its tags are the table's, and there is room
-pub record Ready (bs ix sentence out : List ℕ) : Type 0 where
+pub record Runnable (bs ix sentence out : List ℕ) : Type 0 where
   pub tags : ℕ
   pub loaded : Loaded bs tags ix
   pub below : Below tags sentence

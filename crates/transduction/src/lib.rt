@@ -2,12 +2,12 @@
 use answers::Refusal;
 use answers::RunAnswer;
 use decoder::TableAnswer;
-use decoder::base_of;
-use decoder::count_of;
-use decoder::entry_at;
-use decoder::place_of;
-use decoder::tag_of;
 use sentences::Admission;
+use steps::base_of;
+use steps::count_of;
+use steps::entry_at;
+use steps::place_of;
+use steps::tag_of;
 ghost use mathlib.Core.Path.{_≡_};
 ghost use Prim.Native.Nat.{ℕ, _+_, _*_, _≤_, _<_};
 ghost use mathlib.Core.List.{List, _++_};
@@ -18,13 +18,14 @@ ghost use Rattle.sentences.specs.Run.{Ran};
 ghost use Rattle.tables.specs.Decode.{decode};
 ghost use Rattle.tables.specs.Run.{tableRun, sizeOf};
 ghost use Rattle.decoder.specs.Answer.{tableOutcome};
-ghost use Rattle.decoder.specs.Index.{countOf, placeOf, Stands, Cell, Head, Loaded};
-ghost use Rattle.transduction.specs.Parts.{Put, Ready, made};
+ghost use Rattle.steps.specs.Entry.{countOf, placeOf, TagsAt, EntryOf};
+ghost use Rattle.decoder.specs.Index.{Head, Loaded};
+ghost use Rattle.transduction.specs.Parts.{WordPut, Runnable, made};
 
 // The tags from a place of the table, each second byte, to `out` from `at`.
 fn put_word(table: &[u8], place: usize, count: usize, out: &mut [u8], at: usize)
     requires { ⌜ (place + 2 * count ≤ length (now table) + 1) × (at + count ≤ length (now out)) ⌝ }
-    ensures { λ r. ⌜ ((w : List ℕ) → length w ≡ count → Stands (now (table .entry)) place w → now (out .exit) ≡ paste (now (out .entry)) at w count) ⌝ }
+    ensures { λ r. ⌜ ((w : List ℕ) → length w ≡ count → TagsAt (now (table .entry)) place w → now (out .exit) ≡ paste (now (out .entry)) at w count) ⌝ }
 {
     let mut j = 0;
     while j < count {
@@ -36,7 +37,7 @@ fn put_word(table: &[u8], place: usize, count: usize, out: &mut [u8], at: usize)
 // The word of a step's entry to `out` from `at`. One tag is stored whether or not there is one: `out` goes on, and what comes later is stored over it.
 fn put(table: &[u8], e: u64, out: &mut [u8], at: usize) -> usize
     requires { ⌜ ((countOf e ≡ 1 → ⊥) → placeOf e + 2 * countOf e ≤ length (now table) + 1) × (at < length (now out)) × (at + countOf e ≤ length (now out)) ⌝ }
-    ensures { λ r. ⌜ ((base : ℕ) (w : List ℕ) → Cell (now (table .entry)) base w e → length w < 0xff → Put (now (out .entry)) (now (out .exit)) at w r) ⌝ }
+    ensures { λ r. ⌜ ((base : ℕ) (w : List ℕ) → EntryOf (now (table .entry)) base w e → length w < 0xff → WordPut (now (out .entry)) (now (out .exit)) at w r) ⌝ }
 {
     let count = count_of(e);
     out[at] = tag_of(e);
@@ -49,7 +50,7 @@ fn put(table: &[u8], e: u64, out: &mut [u8], at: usize) -> usize
 
 // The words put out from state 0, and the final word.
 fn transduce(table: &[u8], index: &[u64], sentence: &[u8], out: &mut [u8])
-    requires { ⌜ Ready (now table) (now index) (now sentence) (now out) ⌝ }
+    requires { ⌜ Runnable (now table) (now index) (now sentence) (now out) ⌝ }
     ensures { λ r. ⌜ now (out .exit) ≡ made (decode (now (table .entry))) (now (sentence .entry)) ++ drop (length (now (sentence .entry))) (now (out .entry)) ⌝ }
 {
     let mut base = 1;

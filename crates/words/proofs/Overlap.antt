@@ -4,8 +4,8 @@ use native.Mathlib.Omega.{arith}
 use mathlib.Core.Path.{_≡_, refl, sym, ap}
 use mathlib.Core.List.{List, [], _∷_, _++_}
 use mathlib.Core.Bool.{Bool, true, false}
-use lib.ListN.{length, take, drop, length-append}
-use lib.Seq.{take-append-seam, take-all}
+use lib.ListN.{length, take, drop}
+use lib.Seq.{take-append-seam}
 use Rattle.words.specs.Word.{prefix}
 use Rattle.words.specs.Overlap.{overlap, skipped}
 use Rattle.words.proofs.Word.{prefix-split, prefix-length}
@@ -33,11 +33,3 @@ overlap-le u (b ∷ t) = go (prefix (b ∷ t) u) refl (overlap-le u t)
 pub overlap-prefix : (u t : List ℕ) → prefix t u ≡ true → overlap u t ≡ length t
 overlap-prefix u [] h = refl
 overlap-prefix u (b ∷ t) h = rw (h, overlap)
-
--- a word that is no longer overlaps in all of u only if it is u
-pub overlap-full : (u t : List ℕ) → length t ≤ length u → overlap u t ≡ length u → t ≡ u
-overlap-full u t le e = go (skipped u t) (rw (e, take-all (length u) u (omega arith)) at (overlap-split u t))
-  where
-    go : (y : List ℕ) → t ≡ y ++ u → t ≡ u
-    go [] h = h
-    go (b ∷ y) h = absurd (omega (arith, simp length-append at (ap length h)))

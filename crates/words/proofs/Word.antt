@@ -1,14 +1,16 @@
 -- Words whose tags are all below k; the test for a prefix; equality as a test.
-use Prim.Native.Nat.{ℕ, zero, suc, _≤_, _<_}
+use Prim.Native.Nat.{ℕ, zero, suc, _+_, _≤_, _<_}
 use native.Mathlib.Omega.{arith}
 use native.Mathlib.Decide.{decLt}
+use native.Mathlib.Numerals.{add-one}
 use mathlib.Core.Logic.{_⊎_, inl, inr}
 use mathlib.Core.Path.{_≡_, refl, sym, ap, _∙_}
 use mathlib.Core.List.{List, [], _∷_, _++_}
 use mathlib.Core.Bool.{Bool, true, false, false≢true}
 use lib.ListN.{length, take, drop, getD, set, take-append-drop, length-append}
 use lib.Dec.{eqb}
-use borrow.Author.Tests.{eqb-true, eq-eqb}
+use lib.Seq.{drop-cons}
+use borrow.Author.Tests.{eqb-true, eq-eqb, ne-eqb}
 use Rattle.words.specs.Word.{Below, prefix}
 
 -- a number below n + 1 is below n or is n
@@ -51,6 +53,21 @@ below-at k (a ∷ u) (suc i) h b = below-at k u i (omega arith) (b .1)
 pub prefix-append : (u y : List ℕ) → prefix u (u ++ y) ≡ true
 prefix-append [] y = refl
 prefix-append (a ∷ u) y = rw (eq-eqb a a refl, prefix) (prefix-append u y)
+
+-- one tag more of a prefix
+same-tag : (a b : ℕ) (u w : List ℕ) → a ≡ b → prefix (a ∷ u) (b ∷ w) ≡ prefix u w
+same-tag a b u w e = cc (eq-eqb a b e)
+
+other-tag : (a b : ℕ) (u w : List ℕ) → (a ≡ b → ⊥) → prefix (a ∷ u) (b ∷ w) ≡ false
+other-tag a b u w e = cc (ne-eqb a b e)
+
+module _ (t u : List ℕ) (i j : ℕ) (hi : i < length t) (hj : j < length u) where
+  pub prefix-next : getD t i 0 ≡ getD u j 0 → prefix (drop i t) (drop j u) ≡ prefix (drop (i + 1) t) (drop (j + 1) u)
+  prefix-next e =
+      rw (add-one i, add-one j, drop-cons t i 0 hi, drop-cons u j 0 hj) (same-tag (getD t i 0) (getD u j 0) (drop (suc i) t) (drop (suc j) u) e)
+
+  pub prefix-stops : (getD t i 0 ≡ getD u j 0 → ⊥) → prefix (drop i t) (drop j u) ≡ false
+  prefix-stops e = rw (drop-cons t i 0 hi, drop-cons u j 0 hj) (other-tag (getD t i 0) (getD u j 0) (drop (suc i) t) (drop (suc j) u) e)
 
 -- a prefix stands at the front
 pub prefix-split : (u w : List ℕ) → prefix u w ≡ true → w ≡ u ++ drop (length u) w

@@ -2,3 +2,4 @@
 pub mod Word
 pub mod Front
 pub mod Overlap
+pub mod Decides

@@ -16,10 +16,10 @@ use Rattle.transducers.proofs.Lower.{pigeonhole}
 use Rattle.transducers.proofs.Tabulate.{length-tabulate, at-tabulate}
 use Rattle.workspace.specs.declared.Grid.{Grid}
 use Rattle.workspace.specs.Entries.{MEMBER, MARK}
-use Rattle.workspace.specs.Cells.{at, Kept, Spare, Got, Put, Cleared}
+use Rattle.workspace.specs.Cells.{Kept, Spare, Got, Put, Cleared}
 use Rattle.workspace.proofs.Regions.{kept-none, kept-then, kept-wider, sized-kept, spare-put}
 use Rattle.workspace.proofs.Words.{tabulate-same, tabulate-snoc}
-use Rattle.worklist.specs.Worklist.{memberOf, markOf, listed, List-notes, Slots, Worklist, Begun, Grown, Entered, Place}
+use Rattle.worklist.specs.Worklist.{memberOf, markOf, listed, List-notes, Slots, Worklist, Begun, Grown, Entered, Member}
 
 -- the list as a list
 module _ (g : Grid) (W : List ℕ) (base : ℕ) where
@@ -64,7 +64,7 @@ module _ (g : Grid) (W : List ℕ) (base n len : ℕ) (w : Worklist g W base n l
       let is : s ≡ memberOf g W base (place l s) = eqb-true s (getD l (place l s) 0) (find-hit (eqb s) 0 l lt) ∙ listed-at g W base len (place l s) h in
       ap (markOf g W base) is ∙ w .marks (place l s) h
 
-  pub place-marked : (seen : ℕ) → s < n → Got g W (base + s) (g .tags) MARK seen → (markOf g W base s ≡ 0 → ⊥) → (0 < seen) × Place g W base len s (seen - 1)
+  pub place-marked : (seen : ℕ) → s < n → Got g W (base + s) (g .tags) MARK seen → (markOf g W base s ≡ 0 → ⊥) → (0 < seen) × Member g W base len s (seen - 1)
   place-marked seen h got has =
       let m = w .marked s h has in
       let some : 0 < seen = by seen (got .is) in (

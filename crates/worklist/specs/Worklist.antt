@@ -59,7 +59,7 @@ pub record Entered (g : Grid) (W X : List ℕ) (base n len s to : ℕ) : Type 0 
   pub noted : listed g X base to ≡ note (listed g W base len) s
 
 -- s is the p-th member
-pub record Place (g : Grid) (W : List ℕ) (base len s p : ℕ) : Type 0 where
+pub record Member (g : Grid) (W : List ℕ) (base len s p : ℕ) : Type 0 where
   pub below : p < len
   pub is : memberOf g W base p ≡ s
   pub mark : markOf g W base s ≡ suc p

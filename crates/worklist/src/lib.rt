@@ -10,7 +10,7 @@ use workspace::get;
 use workspace::put;
 ghost use mathlib.Core.Path.{_≡_};
 ghost use Prim.Native.Nat.{_<_};
-ghost use Rattle.worklist.specs.Worklist.{memberOf, markOf, Slots, Worklist, Begun, Entered, Place};
+ghost use Rattle.worklist.specs.Worklist.{memberOf, markOf, Slots, Worklist, Begun, Entered, Member};
 
 // The list of 0.
 pub fn begin(work: &mut [u16], g: Grid, base: usize, n: usize)
@@ -50,7 +50,7 @@ pub fn member(work: &[u16], g: Grid, base: usize, n: usize, len: usize, i: usize
 pub fn place_of(work: &[u16], g: Grid, base: usize, n: usize, len: usize, s: usize) -> usize
     requires { ⌜ Worklist g (now work) base n len ⌝ }
     requires { ⌜ (s < n) × (markOf g (now work) base s ≡ 0 → ⊥) ⌝ }
-    ensures { λ p. ⌜ Place g (now (work .entry)) base len s p ⌝ }
+    ensures { λ p. ⌜ Member g (now (work .entry)) base len s p ⌝ }
 {
     get(work, g, base + s, g.tags, MARK) - 1
 }

@@ -12,7 +12,8 @@ use lib.ListN.{length, getD, take, drop, drop-of-length-le}
 use lib.Seq.{drop-cons, take-all}
 use Rattle.words.specs.Front.{meet}
 use Rattle.workspace.specs.declared.Grid.{Grid}
-use Rattle.workspace.specs.Cells.{at, word, Decides}
+use Rattle.words.specs.Decides.{Decides}
+use Rattle.workspace.specs.Cells.{at, word}
 use Rattle.workspace.proofs.Words.{word-length}
 
 meet-nil : (u : List ℕ) → meet u [] ≡ []

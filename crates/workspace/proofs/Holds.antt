@@ -1,5 +1,5 @@
 -- Rows that hold a table: they do as long as their words stay, and are filled step by step and row by row.
-use Prim.Native.Nat.{ℕ, suc, _+_, _≤_, _<_}
+use Prim.Native.Nat.{ℕ, _+_, _≤_, _<_}
 use native.Mathlib.Omega.{arith}
 use mathlib.Core.Path.{_≡_, sym, ap, _∙_}
 use mathlib.Core.Logic.{_⊎_, inl, inr}
@@ -14,8 +14,8 @@ use Rattle.transducers.proofs.Tabulate.{agree-table, rows-table, length-table, 
 use Rattle.transducers.proofs.Run.{output-length}
 use Rattle.workspace.specs.declared.Grid.{Grid}
 use Rattle.workspace.specs.Entries.{NEXT, OUTPUT, FINAL}
-use Rattle.workspace.specs.Cells.{at, word, Kept, In-rows, Entry, Cell, Put, Written, Fits}
-use Rattle.workspace.specs.Holds.{StepAt, Stepped, RowAt, Rowed, Roomy, Holds, Stepping, Filling, held, tableAt}
+use Rattle.workspace.specs.Cells.{word, Kept, In-rows, Entry, Cell, Put, Written, Fits}
+use Rattle.workspace.specs.Holds.{StepAt, Stepped, RowAt, Rowed, Roomy, Holds, Stepping, Filling, shapeAt, tableAt}
 use Rattle.workspace.proofs.Regions.{kept-none, kept-then, kept-wider}
 use Rattle.workspace.proofs.Words.{word-length, word-kept}
 
@@ -178,12 +178,12 @@ holds-table g W base S room inside roomy states =
 -- the table that the rows hold can be read from them
 pub length-at : (g : Grid) (W : List ℕ) (base n : ℕ) → length (tableAt g W base n) ≡ n
 unfolding tableAt
-length-at g W base n = length-table (g .tags) (held g W base n)
+length-at g W base n = length-table (g .tags) (shapeAt g W base n)
 
 pub table-at : (g : Grid) (W : List ℕ) (base n : ℕ) (t : Table) → Holds g W base t → length t ≡ n → tableAt g W base n ≡ t
 unfolding tableAt
 table-at g W base n t h long =
-    table-equal (g .tags) (tableAt g W base n) t (rows-table (g .tags) (held g W base n)) (h .rows)
+    table-equal (g .tags) (tableAt g W base n) t (rows-table (g .tags) (shapeAt g W base n)) (h .rows)
     (record {
       counts = length-at g W base n ∙ sym long;
       nexts = λ q a hq ha. sym (agree .nexts q a (low q hq) ha) ∙ h .states q (in-table q hq) .steps a ha .next-is;
@@ -191,8 +191,8 @@ table-at g W base n t h long =
       finals = λ q hq. sym (agree .finals q (low q hq)) ∙ h .states q (in-table q hq) .final-is;
     })
   where
-    agree : Agree (g .tags) (held g W base n) (shape (tableAt g W base n))
-    agree = agree-table (g .tags) (held g W base n)
+    agree : Agree (g .tags) (shapeAt g W base n) (shape (tableAt g W base n))
+    agree = agree-table (g .tags) (shapeAt g W base n)
 
     low : (q : ℕ) → q < length (tableAt g W base n) → q < n
     low q hq = omega (arith, length-at g W base n)

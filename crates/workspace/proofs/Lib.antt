@@ -6,5 +6,6 @@ pub mod Appending
 pub mod Shifting
 pub mod Fronts
 pub mod Holds
+pub mod Stands
 pub mod Views
 pub mod Falls

@@ -3,7 +3,6 @@
 use Prim.Native.Nat.{ℕ, suc, _+_, _*_, _≤_, _<_}
 use mathlib.Core.Path.{_≡_}
 use mathlib.Core.List.{List}
-use mathlib.Core.Bool.{Bool, true, false}
 use lib.ListN.{length, getD, set, take, drop}
 use Rattle.transducers.specs.Tabulate.{tabulate}
 use Rattle.workspace.specs.declared.Grid.{Grid}
@@ -85,8 +84,3 @@ pub record Written (g : Grid) (W X : List ℕ) (r c s : ℕ) (w : List ℕ) : Ty
 -- the tags of a word from one place up to another
 abbrev pub part : ℕ → ℕ → List ℕ → List ℕ
 part from to w = drop from (take to w)
-
--- a test decides P
-pub record Decides (b : Bool) (P : Type 0) : Type 0 where
-  pub so : b ≡ true → P
-  pub not : b ≡ false → P → ⊥

@@ -7,7 +7,7 @@ use lib.ListN.{length}
 use Rattle.transducers.specs.Transducer.{Shape}
 use Rattle.transducers.specs.Table.{Table, shape}
 use Rattle.transducers.specs.Canonical.{Inside, Sound, Held}
-use Rattle.transducers.specs.Tabulate.{table, Rows}
+use Rattle.transducers.specs.Tabulate.{table, Rows, Made}
 use Rattle.workspace.specs.declared.Grid.{Grid}
 use Rattle.workspace.specs.Entries.{NEXT, OUTPUT, FINAL}
 use Rattle.workspace.specs.Cells.{at, word, Sized, Kept, Cell, In-rows, Fits}
@@ -38,8 +38,8 @@ pub record Roomy (g : Grid) (S : Shape) : Type 0 where
   pub finals : (q : ℕ) → q < S .count → Fits g FINAL (length (S .final q))
 
 -- the transducer that n rows from a base hold, and its table
-abbrev pub held : Grid → List ℕ → ℕ → ℕ → Shape
-held g W base n =
+abbrev pub shapeAt : Grid → List ℕ → ℕ → ℕ → Shape
+shapeAt g W base n =
     record {
       count = n;
       next = λ q a. at g W (base + q) a NEXT;
@@ -48,7 +48,7 @@ held g W base n =
     }
 
 unfoldable pub tableAt : Grid → List ℕ → ℕ → ℕ → Table
-tableAt g W base n = table (g .tags) (held g W base n)
+tableAt g W base n = table (g .tags) (shapeAt g W base n)
 
 abbrev pub standing : Grid → List ℕ → ℕ → ℕ → Shape
 standing g W base n = shape (tableAt g W base n)
@@ -60,6 +60,11 @@ pub record Holds (g : Grid) (W : List ℕ) (base : ℕ) (t : Table) : Type 0 whe
   pub inside : Inside (g .tags) (shape t)
   pub roomy : Roomy g (shape t)
   pub states : (q : ℕ) → q < length t → RowAt g W (base + q) (shape t) q
+
+-- the rows from a base hold what a phase made
+pub record Stands (g : Grid) (W : List ℕ) (base n d : ℕ) (f : List ℕ → List ℕ) (P : Table → Type 0) : Type 0 where
+  pub made : Made (g .tags) n d f P
+  pub holds : Holds g W base (made .table)
 
 -- a row that is being filled: the steps below a are S's
 pub record Stepping (g : Grid) (W X : List ℕ) (r : ℕ) (S : Shape) (q a : ℕ) : Type 0 where

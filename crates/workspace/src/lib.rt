@@ -5,7 +5,8 @@ ghost use mathlib.Core.List.{[], _∷_, _++_};
 ghost use mathlib.Core.Bool.{false};
 ghost use lib.ListN.{length, drop, take};
 ghost use Rattle.words.specs.Front.{meet};
-ghost use Rattle.workspace.specs.Cells.{ix, at, word, Sized, In, Inner, Got, Put, Cleared, Written, part, Decides};
+ghost use Rattle.workspace.specs.Cells.{ix, at, word, Sized, In, Inner, Got, Put, Cleared, Written, part};
+ghost use Rattle.words.specs.Decides.{Decides};
 
 // The entries of a step's cell: the next state, and the number of tags put out, which come after it.
 pub const NEXT: usize = 0;

@@ -38,14 +38,14 @@ merge-requires c κs =
     let w = c .before .before .before .before .before .before .before .before .before .before .before .write-rule in
     let d = c .before .before .before .before .before .before .before .compose in
     let e = c .before .before .before .normalize in
-    (ready-normalized (st .args .g) (st .args .work .now) (st .args .n) (st .args .ceiling) (the-rule st) (st .pre .1) _ (w .result) (w .ensures) _ _ (d .ensures .0) (d .ensures .1) _ (e .ensures), early-normalized (st .args .g) (st .args .work .now) (st .args .n) (st .args .ceiling) (the-rule st) (st .pre .1) _ (w .result) (w .ensures) _ _ (d .ensures .0) (d .ensures .1) _ (e .ensures))
+    (ready-normalized (st .args .g) (st .args .work .now) (st .args .n) (st .args .ceiling) (the-rule st) (st .pre .1) _ (w .result) (w .ensures) _ _ (d .ensures) _ (e .ensures), early-normalized (st .args .g) (st .args .work .now) (st .args .n) (st .args .ceiling) (the-rule st) (st .pre .1) _ (w .result) (w .ensures) _ _ (d .ensures) _ (e .ensures))
 
 normalize-requires : tie.Need-normalize-requires
 normalize-requires c κs =
     let st = c .before .before .before .before .before .before .before .before .before .before in
     let w = c .before .before .before .before .before .before .before .write-rule in
     let d = c .before .before .before .compose in
-    ready-composed (st .args .g) (st .args .work .now) (st .args .n) (st .args .ceiling) (the-rule st) (st .pre .1) _ (w .result) (w .ensures) _ _ (d .ensures .0) (d .ensures .1)
+    ready-composed (st .args .g) (st .args .work .now) (st .args .n) (st .args .ceiling) (the-rule st) (st .pre .1) _ (w .result) (w .ensures) _ _ (d .ensures)
 
 number-requires : tie.Need-number-requires
 number-requires c κs =
@@ -54,7 +54,7 @@ number-requires c κs =
     let d = c .before .before .before .before .before .before .before .before .before .before .before .compose in
     let e = c .before .before .before .before .before .before .before .normalize in
     let m = c .before .before .before .merge in
-    (is-classed (st .args .g) (st .args .work .now) (st .args .n) (st .args .ceiling) (the-rule st) (st .pre .1) _ (w .result) (w .ensures) _ _ (d .ensures .0) (d .ensures .1) _ (e .ensures) _ (m .ensures), omega arith)
+    (is-classed (st .args .g) (st .args .work .now) (st .args .n) (st .args .ceiling) (the-rule st) (st .pre .1) _ (w .result) (w .ensures) _ _ (d .ensures) _ (e .ensures) _ (m .ensures), omega arith)
 
 same-length : tie.Need-same-length
 same-length c = search needs
@@ -67,7 +67,7 @@ returns c =
     let e = c .before .before .before .before .before .before .before .before .before .before .normalize in
     let m = c .before .before .before .before .before .before .merge in
     let u = c .before .before .number in
-    added (st .args .g) (st .args .work .now) (st .args .n) (st .args .ceiling) (the-rule st) (st .pre .1) _ (w .result) (w .ensures) _ _ (d .ensures .0) (d .ensures .1) _ (e .ensures) _ (m .ensures) _ _ (u .ensures)
+    added (st .args .g) (st .args .work .now) (st .args .n) (st .args .ceiling) (the-rule st) (st .pre .1) _ (w .result) (w .ensures) _ _ (d .ensures) _ (e .ensures) _ (m .ensures) _ _ (u .ensures)
 
 pub add-rule-spec : {M : Type 1} → statement M
 add-rule-spec =

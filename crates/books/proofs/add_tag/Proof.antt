@@ -1,8 +1,8 @@
 -- `books::add_tag` meets its contract: each return is a case of the definition at 22.
 use native.Mathlib.Omega.{arith}
 use borrow.Author.Needs.{needs}
-use Prim.Native.Nat.{ℕ, _+_, _-_}
-use lib.ListN.{length, getD}
+use Prim.Native.Nat.{_+_, _-_}
+use lib.ListN.{getD}
 use Rattle.answers.specs.Outcome.{Outcome}
 use Rattle.cascades.specs.Rule.{Cascade}
 use Rattle.books.specs.Arrays.{Arrays, holding}

@@ -1,13 +1,12 @@
 -- `books::end_book` meets its contract: each return is a case of the definition at 00.
 use native.Mathlib.Omega.{arith}
 use borrow.Author.Needs.{needs}
-use Prim.Native.Nat.{ℕ, _+_, _-_}
+use Prim.Native.Nat.{_-_}
 use mathlib.Core.Path.{_∙_, sym, ap}
-use lib.ListN.{length, getD}
 use Rattle.answers.specs.Outcome.{Outcome}
 use Rattle.cascades.specs.Rule.{Cascade}
 use Rattle.books.specs.Arrays.{Arrays, holding}
-use Rattle.books.specs.Resume.{readCommands, cascadeOutcome}
+use Rattle.books.specs.Resume.{readCommands, cascadeOutcome, faulted}
 use Rattle.books.specs.declared.BookAnswer.{BookAnswer}
 use Rattle.books.proofs.Commands.{end-fault, end-more, end-whole}
 use Rattle.books.proofs.end_book.Statement.{statement}
@@ -45,12 +44,12 @@ returns-2 : tie.Need-returns-2
 returns-2 c =
     let st = c .before .before .before .before .before in
     ap (λ (r : BookAnswer). cascadeOutcome r (arrays st)) (c .refused2 .ensures)
-    ∙ sym (end-more (st .args .s .now) (st .args .k) (st .args .m) (arrays st) (st .args .at) (st .pre .1 .1) (st .pre .1 .2) (cc) (omega arith))
+    ∙ sym (end-more (st .args .s .now) (st .args .k) (st .args .m) (arrays st) (st .args .at) (st .pre .1 .1) (st .pre .1 .2) (c .before .before .before .closing-fault .ensures ∙ ap faulted (c .before .before .if1 .left)) (omega arith))
 
 returns-3 : tie.Need-returns-3
 returns-3 c =
     let st = c .before .before .before .before in
-    sym (end-whole (st .args .s .now) (st .args .k) (st .args .m) (arrays st) (st .args .at) (st .pre .1 .1) (st .pre .1 .2) (cc) (omega arith))
+    sym (end-whole (st .args .s .now) (st .args .k) (st .args .m) (arrays st) (st .args .at) (st .pre .1 .1) (st .pre .1 .2) (c .before .before .closing-fault .ensures ∙ ap faulted (c .before .if1 .left)) (omega arith))
 
 pub end-book-spec : {M : Type 1} → statement M
 end-book-spec =

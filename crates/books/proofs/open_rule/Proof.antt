@@ -1,13 +1,13 @@
 -- `books::open_rule` meets its contract: each return is a case of the definition at 21.
 use native.Mathlib.Omega.{arith}
 use borrow.Author.Needs.{needs}
-use Prim.Native.Nat.{ℕ, _+_, _-_}
-use mathlib.Core.Path.{_∙_, sym, ap}
-use lib.ListN.{length, getD}
+use Prim.Native.Nat.{_+_, _-_}
+use mathlib.Core.Path.{_∙_, ap}
+use lib.ListN.{getD}
 use Rattle.answers.specs.Outcome.{Outcome}
 use Rattle.cascades.specs.Rule.{Cascade}
 use Rattle.books.specs.Arrays.{Arrays, holding}
-use Rattle.books.specs.Resume.{readCommands}
+use Rattle.books.specs.Resume.{readCommands, faulted}
 use Rattle.books.proofs.Arrays.{opened-arrays, opened-shaped}
 use Rattle.books.proofs.Commands.{rule-fault, rule-seventeenth, rule-no-place, rule-no-tag, rule-high, rule-opened}
 use Rattle.books.proofs.Resume.{resumes-refused, resumes-book}
@@ -43,7 +43,7 @@ returns-2 : tie.Need-returns-2
 returns-2 c =
     let st = c .before .before .before .before .before .before .before in
     resumes-refused (st .args .s .now) (entry st) (st .args .at + 1 + 1 + 1) (arrays st) (st .pre .0) (c .refused2 .result) 7 (st .args .at) (c .refused2 .ensures)
-    (rule-seventeenth (st .args .s .now) (st .args .k) (st .args .m) (arrays st) (st .args .at) (st .pre .1 .1) (st .pre .1 .2) (cc) (omega arith))
+    (rule-seventeenth (st .args .s .now) (st .args .k) (st .args .m) (arrays st) (st .args .at) (st .pre .1 .1) (st .pre .1 .2) (c .before .before .before .closing-fault .ensures ∙ ap faulted (c .before .before .if1 .left)) (omega arith))
 
 add-first : tie.Need-add-first
 add-first c = search needs
@@ -55,7 +55,7 @@ returns-3 : tie.Need-returns-3
 returns-3 c =
     let st = c .before .before .before .before .before .before .before .before in
     resumes-refused (st .args .s .now) (entry st) (st .args .at + 1 + 1 + 1) (arrays st) (st .pre .0) (c .refused3 .result) 1 (st .args .at + 1) (c .refused3 .ensures)
-    (rule-no-place (st .args .s .now) (st .args .k) (st .args .m) (arrays st) (st .args .at) (st .pre .1 .1) (st .pre .1 .2) (cc) (omega arith) (omega arith))
+    (rule-no-place (st .args .s .now) (st .args .k) (st .args .m) (arrays st) (st .args .at) (st .pre .1 .1) (st .pre .1 .2) (c .before .before .before .before .closing-fault .ensures ∙ ap faulted (c .before .before .before .if1 .left)) (omega arith) (omega arith))
 
 add-second : tie.Need-add-second
 add-second c = search needs
@@ -67,7 +67,7 @@ returns-4 : tie.Need-returns-4
 returns-4 c =
     let st = c .before .before .before .before .before .before .before .before .before in
     resumes-refused (st .args .s .now) (entry st) (st .args .at + 1 + 1 + 1) (arrays st) (st .pre .0) (c .refused4 .result) 1 (st .args .at + 1 + 1) (c .refused4 .ensures)
-    (rule-no-tag (st .args .s .now) (st .args .k) (st .args .m) (arrays st) (st .args .at) (st .pre .1 .1) (st .pre .1 .2) (cc) (omega arith) (omega arith))
+    (rule-no-tag (st .args .s .now) (st .args .k) (st .args .m) (arrays st) (st .args .at) (st .pre .1 .1) (st .pre .1 .2) (c .before .before .before .before .before .closing-fault .ensures ∙ ap faulted (c .before .before .before .before .if1 .left)) (omega arith) (omega arith))
 
 shared-slice-read-tag : tie.Need-shared-slice-read-tag
 shared-slice-read-tag c = search needs
@@ -79,7 +79,7 @@ returns-5 : tie.Need-returns-5
 returns-5 c =
     let st = c .before .before .before .before .before .before .before .before .before .before .before in
     resumes-refused (st .args .s .now) (entry st) (st .args .at + 1 + 1 + 1) (arrays st) (st .pre .0) (c .refused5 .result) 4 (st .args .at + 1 + 1) (c .refused5 .ensures)
-    (rule-high (st .args .s .now) (st .args .k) (st .args .m) (arrays st) (st .args .at) (st .pre .1 .1) (st .pre .1 .2) (cc) (omega arith) (omega arith) (omega arith))
+    (rule-high (st .args .s .now) (st .args .k) (st .args .m) (arrays st) (st .args .at) (st .pre .1 .1) (st .pre .1 .2) (c .before .before .before .before .before .before .before .closing-fault .ensures ∙ ap faulted (c .before .before .before .before .before .before .if1 .left)) (omega arith) (omega arith) (omega arith))
 
 mul-lengths : tie.Need-mul-lengths
 mul-lengths c = search needs
@@ -107,7 +107,7 @@ returns-6 c =
     let after = opened-arrays (arrays st) (st .args .m) place tag in
     resumes-book (st .args .s .now) (entry st) (st .args .at + 1 + 1 + 1) after
     (opened-shaped (arrays st) (st .pre .0) (st .args .m) (omega arith) place tag) (st .args .k) (st .args .m + 1) (omega arith) (omega arith)
-    (rule-opened (st .args .s .now) (st .args .k) (st .args .m) (arrays st) (st .args .at) (st .pre .1 .1) (st .pre .1 .2) (cc) (omega arith) (st .pre .0) (omega arith) (omega arith))
+    (rule-opened (st .args .s .now) (st .args .k) (st .args .m) (arrays st) (st .args .at) (st .pre .1 .1) (st .pre .1 .2) (c .before .before .before .before .before .before .before .closing-fault .ensures ∙ ap faulted (c .before .before .before .before .before .before .if1 .left)) (omega arith) (st .pre .0) (omega arith) (omega arith))
 
 pub open-rule-spec : {M : Type 1} → statement M
 open-rule-spec =

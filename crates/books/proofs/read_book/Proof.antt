@@ -1,7 +1,7 @@
 -- `books::read_book` meets its contract: it reads into arrays of its own, and answers their number.
 use mathlib.Core.Path.{_∙_, ap}
 use Rattle.books.specs.Answer.{sizes}
-use Rattle.books.specs.Arrays.{Arrays, holding}
+use Rattle.books.specs.Arrays.{holding}
 use Rattle.books.proofs.Arrays.{fresh-shaped}
 use Rattle.books.proofs.Resume.{sizes-read}
 use Rattle.books.proofs.read_book.Statement.{statement}

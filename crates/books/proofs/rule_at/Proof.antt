@@ -1,6 +1,5 @@
 -- `books::rule_at` meets its contract.
 use borrow.Author.Needs.{needs}
-use Rattle.cascades.specs.Value.{Formed}
 use Rattle.books.proofs.rule_at.Statement.{statement}
 use Rattle.books.proofs.rule_at.Tie as tie
 use Rattle.books.proofs.rule_at.Reads as reads

@@ -1,9 +1,7 @@
 -- `print_tags` meets its contract.
-use Prim.Native.Nat.{ℕ, _-_, _≤_}
-use native.Mathlib.Omega.{arith}
+use Prim.Native.Nat.{_-_, _≤_}
 use borrow.Author.Needs.{needs}
-use mathlib.Core.Path.{_≡_, refl}
-use lib.ListN.{length, length-set}
+use lib.ListN.{length}
 use Rattle.cases_tables.proofs.print_tags.Statement.{statement}
 use Rattle.cases_tables.proofs.print_tags.Tie as tie
 use Rattle.cases_tables.proofs.print_tags.Reads as reads

@@ -1,9 +1,6 @@
 -- `unknown_commands` meets its contract.
-use Prim.Native.Nat.{ℕ, _-_, _≤_}
-use native.Mathlib.Omega.{arith}
+use Prim.Native.Nat.{_-_, _≤_}
 use borrow.Author.Needs.{needs}
-use mathlib.Core.Path.{_≡_, refl}
-use lib.ListN.{length, length-set}
 use Rattle.cases_tables.proofs.unknown_commands.Statement.{statement}
 use Rattle.cases_tables.proofs.unknown_commands.Tie as tie
 use Rattle.cases_tables.proofs.unknown_commands.Reads as reads

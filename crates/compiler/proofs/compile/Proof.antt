@@ -8,7 +8,7 @@ use Rattle.answers.specs.declared.Refusal.the-variants.{Bare}
 use Rattle.compilation.specs.Compile.{tested}
 use Rattle.books.specs.Arrays.{holding}
 use Rattle.books.proofs.Arrays.{fresh-shaped}
-use Rattle.compiler.specs.declared.CompileAnswer.{CompileAnswer}
+use Rattle.answers.specs.declared.CompileAnswer.{CompileAnswer}
 use Rattle.compiler.proofs.Reading.{refused-ended, too-low, too-high, book-refused, read-readable, book-ended, all-three}
 use Rattle.compiler.proofs.compile.Statement.{statement}
 use Rattle.compiler.proofs.compile.Tie as tie

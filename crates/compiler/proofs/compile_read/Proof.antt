@@ -10,7 +10,7 @@ use Rattle.compiler.proofs.compile_read.Statement.{statement}
 use Rattle.compiler.proofs.compile_read.Tie as tie
 use Rattle.compiler.proofs.compile_read.Reads as reads
 use Rattle.compiler.proofs.compile_read.Lts as lts
-use Rattle.compiler.proofs.compile_rules.Reads as compile-rules-reads
+use Rattle.builder.proofs.build.Reads as build-reads
 use Rattle.words.proofs.wide.Reads as wide-reads
 use Rattle.compiler.proofs.wipe.Reads as wipe-reads
 
@@ -50,8 +50,8 @@ returns c =
     let w = c .before .before .before .before .wide in
     short (st .args .k) (st .args .ceiling) (st .args .m) (the-arrays st) (st .pre) (w .result) (w .ensures .0) (st .args .work .now) (st .args .out .now) (omega arith) _ refl
 
-compile-rules-requires : tie.Need-compile-rules-requires
-compile-rules-requires c κs =
+build-requires : tie.Need-build-requires
+build-requires c κs =
     let st = c .before .before .before .before .before .before .before .before .before in
     let w = c .before .before .before .before .before .before .wide in
     compilable (w .result) (st .args .ceiling) (st .args .m) (the-arrays st) (st .args .work .now)
@@ -70,7 +70,7 @@ returns-2 : tie.Need-returns-2
 returns-2 c =
     let st = c .before .before .before .before .before .before .before .before .before .before .before .before .before .before .before .before .before .before in
     let w = c .before .before .before .before .before .before .before .before .before .before .before .before .before .before .before .wide in
-    let u = c .before .before .before .before .before .before .before .before .compile-rules in
+    let u = c .before .before .before .before .before .before .before .before .build in
     ended (st .args .k) (st .args .ceiling) (st .args .m) (the-arrays st) (st .pre) (w .result) (w .ensures .0) (st .args .work .now) (u .last .0) _ (st .args .out .now) _ _ (omega arith) (u .ensures .0) (u .ensures .1)
     (c .before .before .wipe .ensures)
 
@@ -86,7 +86,7 @@ compile-read-spec =
     mul-entries-3
     mul-entries-4
     returns
-    compile-rules-requires
+    build-requires
     wipe-requires
     same-length
     same-length-2

@@ -5,7 +5,7 @@ use borrow.Author.Needs.{needs}
 use mathlib.Core.Path.{_≡_, refl, ap, _∙_}
 use mathlib.Core.List.{_++_}
 use lib.ListN.{length, drop, replicate, length-set}
-use Rattle.compiler.proofs.Ending.{wiped-next}
+use Rattle.compiler.proofs.Wiping.{wiped-next}
 use Rattle.compiler.proofs.wipe.Statement.{statement}
 use Rattle.compiler.proofs.wipe.Tie as tie
 use Rattle.compiler.proofs.wipe.Reads as reads

@@ -76,10 +76,13 @@ returns c =
     let u = c .before .before .before .before .begin .ensures in
     let start = composable-kept (a .g) _ _ _ _ _ _ (st .pre) _ (spare-inside (a .g) _ _ _ _ _ _ (st .pre) _ (u .kept)) in
     let inv = c .before .loop .inv in
-    let bk = spare-inside (a .g) _ _ _ _ _ _ (st .pre) _ (u .kept) in (
-      rw (sym (first-same (a .g) _ _ _ _ _ _ (st .pre) _ bk), sym (second-same (a .g) _ _ _ _ _ _ (st .pre) _ bk)) (composed (a .g) _ _ _ _ _ _ start _ _ _ (omega arith) inv),
-      kept-then (a .g) (In-rows (a .base) (a .base + a .n * a .m)) _ _ _ bk (inv .kept),
-    )
+    let bk = spare-inside (a .g) _ _ _ _ _ _ (st .pre) _ (u .kept) in
+    let made = composed (a .g) _ _ _ _ _ _ start _ _ _ (omega arith) inv in
+    record {
+      few = made .few;
+      kept = kept-then (a .g) (In-rows (a .base) (a .base + a .n * a .m)) _ _ _ bk (inv .kept);
+      stands = rw (sym (first-same (a .g) _ _ _ _ _ _ (st .pre) _ bk), sym (second-same (a .g) _ _ _ _ _ _ (st .pre) _ bk)) (made .stands);
+    }
 
 pub compose-spec : {M : Type 1} → statement M
 compose-spec =

@@ -1,7 +1,7 @@
 -- `decoder::entries` meets its contract.
 use native.Mathlib.Omega.{arith}
 use borrow.Author.Needs.{needs}
-use Rattle.decoder.proofs.Places.{all-entries}
+use Rattle.steps.proofs.Places.{all-entries}
 use Rattle.decoder.proofs.entries.Statement.{statement}
 use Rattle.decoder.proofs.entries.Tie as tie
 use Rattle.decoder.proofs.entries.Reads as reads

@@ -3,9 +3,9 @@ use Prim.Native.Nat.{ℕ, _-_, _≤_, _<_}
 use native.Mathlib.Omega.{arith}
 use borrow.Author.Count.{below-more}
 use borrow.Author.Needs.{needs}
+use Rattle.words.proofs.Decides.{decides-no, decides-yes}
 use borrow.Author.Tests.{not-true, not-false}
 use Rattle.decoder.specs.Index.{Level}
-use Rattle.decoder.proofs.Level.{decided-true, decided-false}
 use Rattle.decoder.proofs.level_row.Statement.{statement}
 use Rattle.decoder.proofs.level_row.Tie as tie
 use Rattle.decoder.proofs.level_row.Reads as reads
@@ -25,10 +25,10 @@ level-step-requires : tie.Need-level-step-requires Inv-loop μ-loop
 level-step-requires c κs = (omega arith, c .before .before .before .pre .1 (c .before .loop .a) (omega arith))
 
 returns : tie.Need-returns Inv-loop μ-loop
-returns c all =
+returns c =
     let call = c .before in
     let a = call .before .before .loop .a in
-    decided-false (call .level-step .result) _ (call .level-step .ensures) (not-true (call .level-step .result) (c .if1 .taken)) (all a (omega arith))
+    decides-no _ (λ all. call .level-step .ensures .not (not-true (call .level-step .result) (c .if1 .taken)) (all a (omega arith)))
 
 add-a : tie.Need-add-a Inv-loop μ-loop
 add-a c = search needs
@@ -37,10 +37,10 @@ loop-less : tie.Need-loop-less Inv-loop μ-loop
 loop-less c = search needs
 
 loop-again : tie.Need-loop-again Inv-loop μ-loop
-loop-again c = (omega arith, below-more _ _ (c .before .before .before .loop .inv .1) (decided-true (c .before .level-step .result) _ (c .before .level-step .ensures) (not-false (c .before .level-step .result) (c .if1 .left))))
+loop-again c = (omega arith, below-more _ _ (c .before .before .before .loop .inv .1) (c .before .level-step .ensures .so (not-false (c .before .level-step .result) (c .if1 .left))))
 
 returns-2 : tie.Need-returns-2 Inv-loop μ-loop
-returns-2 c a h = c .before .loop .inv .1 a (omega arith)
+returns-2 c = decides-yes _ (λ a h. c .before .loop .inv .1 a (omega arith))
 
 pub level-row-spec : {M : Type 1} → statement M
 level-row-spec =

@@ -4,12 +4,12 @@ use native.Mathlib.Nat.{zero-mul}
 use native.Mathlib.Omega.{arith}
 use borrow.Author.Count.{below-more}
 use borrow.Author.Needs.{needs}
+use Rattle.words.proofs.Decides.{decides-no, decides-yes}
 use borrow.Author.Tests.{not-true, not-false}
 use mathlib.Core.Path.{_≡_}
 use lib.ListN.{length}
-use Rattle.decoder.specs.Index.{Level, Linked, Decides}
-use Rattle.decoder.proofs.Places.{row-inside, row-next}
-use Rattle.decoder.proofs.Level.{decided-true, decided-false}
+use Rattle.decoder.specs.Index.{Level}
+use Rattle.steps.proofs.Places.{row-inside, row-next}
 use Rattle.decoder.proofs.level_rows.Statement.{statement}
 use Rattle.decoder.proofs.level_rows.Tie as tie
 use Rattle.decoder.proofs.level_rows.Reads as reads
@@ -36,12 +36,11 @@ level-row-requires c κs =
     )
 
 returns : tie.Need-returns Inv-loop μ-loop
-returns c all =
+returns c =
     let call = c .before in
     let b = call .before .before in
     let a = b .before .before .args in
-    decided-false (call .level-row .result) _ (call .level-row .ensures) (not-true (call .level-row .result) (c .if1 .taken))
-    (λ i h. rw (b .loop .inv .1) (all (b .loop .q) i (omega arith) h))
+    decides-no _ (λ all. call .level-row .ensures .not (not-true (call .level-row .result) (c .if1 .taken)) (λ i h. rw (b .loop .inv .1) (all (b .loop .q) i (omega arith) h)))
 
 add-cell : tie.Need-add-cell Inv-loop μ-loop
 add-cell c =
@@ -66,14 +65,14 @@ loop-again c =
     let call = c .before in
     let b = call .before .before in
     let a = b .before .before .args in
-    let row = decided-true (call .level-row .result) _ (call .level-row .ensures) (not-false (call .level-row .result) (c .if1 .left)) in (
+    let row = call .level-row .ensures .so (not-false (call .level-row .result) (c .if1 .left)) in (
       omega arith,
       omega (arith, row-next (b .loop .q) (a .k)),
       below-more _ _ (b .loop .inv .2) (rw (b .loop .inv .1) at row),
     )
 
 returns-2 : tie.Need-returns-2 Inv-loop μ-loop
-returns-2 c q a h g = c .before .loop .inv .2 q (omega arith) a g
+returns-2 c = decides-yes _ (λ q a h g. c .before .loop .inv .2 q (omega arith) a g)
 
 pub level-rows-spec : {M : Type 1} → statement M
 level-rows-spec =

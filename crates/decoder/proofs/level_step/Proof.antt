@@ -1,12 +1,13 @@
 -- `decoder::level_step` meets its contract.
 use native.Mathlib.Omega.{arith}
 use borrow.Author.Needs.{needs}
+use Rattle.words.proofs.Decides.{decides-no, decides-yes}
 use Rattle.decoder.proofs.level_step.Statement.{statement}
 use Rattle.decoder.proofs.level_step.Tie as tie
 use Rattle.decoder.proofs.level_step.Reads as reads
 use Rattle.decoder.proofs.level_step.Lts as lts
-use Rattle.decoder.proofs.base_of.Reads as base-of-reads
-use Rattle.decoder.proofs.count_of.Reads as count-of-reads
+use Rattle.steps.proofs.base_of.Reads as base-of-reads
+use Rattle.steps.proofs.count_of.Reads as count-of-reads
 
 add-e : tie.Need-add-e
 add-e c = search needs
@@ -54,16 +55,16 @@ add-if1-2 : tie.Need-add-if1-2
 add-if1-2 c = search needs
 
 returns : tie.Need-returns
-returns c level =
+returns c =
     let two = c .before .before .before in
     let next = rw (two .before .before .before .base-of .ensures) at (two .count-of2 .ensures .0) in
-    c .if1 .taken (omega (arith, next))
+    decides-no _ (λ level. c .if1 .taken (omega (arith, next)))
 
 returns-2 : tie.Need-returns-2
 returns-2 c =
     let two = c .before .before .before in
     let next = rw (two .before .before .before .base-of .ensures) at (two .count-of2 .ensures .0) in
-    omega (arith, next)
+    decides-yes _ (omega (arith, next))
 
 pub level-step-spec : {M : Type 1} → statement M
 level-step-spec =

@@ -7,7 +7,7 @@ use Rattle.decoder.proofs.load_end.Statement.{statement}
 use Rattle.decoder.proofs.load_end.Tie as tie
 use Rattle.decoder.proofs.load_end.Reads as reads
 use Rattle.decoder.proofs.load_end.Lts as lts
-use Rattle.decoder.proofs.count_of.Reads as count-of-reads
+use Rattle.steps.proofs.count_of.Reads as count-of-reads
 use Rattle.decoder.proofs.level_rows.Reads as level-rows-reads
 
 sub-if1 : tie.Need-sub-if1

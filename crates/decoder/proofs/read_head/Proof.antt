@@ -8,7 +8,7 @@ use Rattle.decoder.proofs.read_head.Statement.{statement}
 use Rattle.decoder.proofs.read_head.Tie as tie
 use Rattle.decoder.proofs.read_head.Reads as reads
 use Rattle.decoder.proofs.read_head.Lts as lts
-use Rattle.decoder.proofs.number_at.Reads as number-at-reads
+use Rattle.steps.proofs.number_at.Reads as number-at-reads
 use Rattle.words.proofs.wide.Reads as wide-reads
 
 returns : tie.Need-returns

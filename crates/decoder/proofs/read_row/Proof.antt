@@ -6,15 +6,16 @@ use mathlib.Core.Path.{refl}
 use lib.ListN.{length, drop, set, length-set}
 use lib.Seq.{getD-set-same}
 use Rattle.tables.specs.Decode.{word}
-use Rattle.decoder.proofs.Places.{row-short, row-other, row-held, row-count, row-whole, word-stands, final-cell, kept-set, kept-then}
+use Rattle.steps.proofs.Places.{word-stands, final-cell, kept-set, kept-then}
+use Rattle.decoder.proofs.Rows.{row-short, row-other, row-held, row-count, row-whole}
 use Rattle.decoder.proofs.read_row.Statement.{statement}
 use Rattle.decoder.proofs.read_row.Tie as tie
 use Rattle.decoder.proofs.read_row.Reads as reads
 use Rattle.decoder.proofs.read_row.Lts as lts
 use Rattle.decoder.proofs.read_steps.Reads as read-steps-reads
 use Rattle.words.proofs.wide.Reads as wide-reads
-use Rattle.decoder.proofs.word_end.Reads as word-end-reads
-use Rattle.decoder.proofs.entry.Reads as entry-reads
+use Rattle.steps.proofs.word_end.Reads as word-end-reads
+use Rattle.steps.proofs.entry.Reads as entry-reads
 
 sub-if1 : tie.Need-sub-if1
 sub-if1 c = search needs

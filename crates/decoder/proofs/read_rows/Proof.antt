@@ -1,5 +1,5 @@
 -- `decoder::read_rows` meets its contract.
-use Prim.Native.Nat.{ℕ, _+_, _*_, _-_, _≤_}
+use Prim.Native.Nat.{_+_, _*_, _-_, _≤_}
 use native.Mathlib.Nat.{zero-mul}
 use native.Mathlib.Omega.{arith}
 use borrow.Author.Needs.{needs}
@@ -8,9 +8,10 @@ use lib.ListN.{length}
 use Rattle.transducers.specs.Table.{no-row}
 use Rattle.tables.specs.Bytes.{rowBytes}
 use Rattle.tables.specs.Decode.{readRow}
-use Rattle.decoder.specs.Index.{RowCells, TableCells, Kept}
+use Rattle.decoder.specs.Index.{RowEntries, TableEntries}
 use Rattle.decoder.proofs.Progress.{Progress, progress-none, progress-all, turn, stopped}
-use Rattle.decoder.proofs.Places.{row-kept, row-inside, row-next}
+use Rattle.steps.proofs.Places.{row-inside, row-next}
+use Rattle.decoder.proofs.Rows.{row-kept}
 use Rattle.decoder.proofs.read_rows.Statement.{statement}
 use Rattle.decoder.proofs.read_rows.Tie as tie
 use Rattle.decoder.proofs.read_rows.Reads as reads
@@ -22,7 +23,7 @@ Inv-loop table k s index₀ to₀ q₀ cell₀ index to q cell =
     (q ≤ s)
     × (cell ≡ q * (k + 1))
     × (length index ≡ length index₀)
-    × Progress (readRow k s) rowBytes no-row (λ i r. RowCells k table index (i * (k + 1)) r) table 4 q to
+    × Progress (readRow k s) rowBytes no-row (λ i r. RowEntries k table index (i * (k + 1)) r) table 4 q to
 
 abbrev μ-loop : tie.MeasureT-loop
 μ-loop table k s index₀ to₀ q₀ cell₀ index to q cell = s - q
@@ -57,15 +58,15 @@ returns c =
     let x = b .loop .index in
     let y = call .read-row .last .1 .1 .1 .1 .0 in
     stopped (readRow k (a .s)) rowBytes no-row bs 4
-    (λ i r. RowCells k bs x (i * (k + 1)) r)
-    (λ r. RowCells k bs y (b .loop .cell) r)
+    (λ i r. RowEntries k bs x (i * (k + 1)) r)
+    (λ r. RowEntries k bs y (b .loop .cell) r)
     (b .loop .q)
     (b .loop .to)
     (call .read-row .result)
     (b .loop .inv .3)
     (call .read-row .ensures .0)
     (a .s)
-    (TableCells k (a .s) bs y)
+    (TableEntries k (a .s) bs y)
     (c .enum-told .given .1)
     (omega arith)
 
@@ -98,14 +99,14 @@ loop-again c =
       omega (arith, row-next (b .loop .q) k),
       search needs,
       turn (readRow k (a .s)) rowBytes no-row bs 4
-          (λ i r. RowCells k bs x (i * (k + 1)) r)
-          (λ r. RowCells k bs y (b .loop .cell) r)
+          (λ i r. RowEntries k bs x (i * (k + 1)) r)
+          (λ r. RowEntries k bs y (b .loop .cell) r)
           (b .loop .q)
           (b .loop .to)
           (call .read-row .result)
           (b .loop .inv .3)
           (call .read-row .ensures .0)
-          (λ i r. RowCells k bs y (i * (k + 1)) r)
+          (λ i r. RowEntries k bs y (i * (k + 1)) r)
           (c .before .got .given .0 .0)
           (c .before .got .given .1)
           (λ i r h g. row-kept k (b .loop .q) i x y bs r h kept g)

@@ -1,27 +1,29 @@
 -- `decoder::read_steps` meets its contract.
-use Prim.Native.Nat.{ℕ, _+_, _*_, _-_, _≤_}
+use Prim.Native.Nat.{_+_, _*_, _-_, _≤_}
 use native.Mathlib.Omega.{arith}
 use borrow.Author.Needs.{needs}
 use mathlib.Core.Path.{_≡_, refl}
 use lib.ListN.{length}
-use Rattle.transducers.specs.Table.{Step, no-step}
+use Rattle.transducers.specs.Table.{no-step}
 use Rattle.tables.specs.Bytes.{stepBytes}
 use Rattle.tables.specs.Decode.{readStep}
-use Rattle.decoder.specs.Index.{Cell, StepCell, StepCells, Kept}
+use Rattle.steps.specs.Entry.{EntryOf, StepEntry}
+use Rattle.steps.specs.Part.{SameBelow}
+use Rattle.decoder.specs.Index.{StepEntries}
 use Rattle.decoder.proofs.Progress.{Progress, progress-none, progress-all, turn, stopped}
-use Rattle.decoder.proofs.Places.{kept-at, kept-then}
+use Rattle.steps.proofs.Places.{kept-at, kept-then}
 use Rattle.decoder.proofs.read_steps.Statement.{statement}
 use Rattle.decoder.proofs.read_steps.Tie as tie
 use Rattle.decoder.proofs.read_steps.Reads as reads
 use Rattle.decoder.proofs.read_steps.Lts as lts
-use Rattle.decoder.proofs.read_step.Reads as read-step-reads
+use Rattle.steps.proofs.read_step.Reads as read-step-reads
 
 abbrev Inv-loop : tie.InvT-loop
 Inv-loop table at k s index₀ first to₀ a₀ index to a =
     (a ≤ k)
     × (length index ≡ length index₀)
-    × Progress (readStep k s) stepBytes no-step (λ i v. StepCell k table index (first + i) v) table at a to
-    × Kept first index₀ index
+    × Progress (readStep k s) stepBytes no-step (λ i v. StepEntry k table index (first + i) v) table at a to
+    × SameBelow first index₀ index
 
 abbrev μ-loop : tie.MeasureT-loop
 μ-loop table at k s index₀ first to₀ a₀ index to a = k - a
@@ -56,15 +58,15 @@ returns c =
     let x = b .loop .index in
     let y = call .read-step .last .1 .1 .1 .1 .0 in (
       stopped (readStep k (a .s)) stepBytes no-step bs (a .at)
-          (λ i v. StepCell k bs x (a .first + i) v)
-          (λ v. StepCell k bs y (a .first + b .loop .a) v)
+          (λ i v. StepEntry k bs x (a .first + i) v)
+          (λ v. StepEntry k bs y (a .first + b .loop .a) v)
           (b .loop .a)
           (b .loop .to)
           (call .read-step .result)
           (b .loop .inv .2)
           (call .read-step .ensures .0)
           k
-          (StepCells k bs y (a .first))
+          (StepEntries k bs y (a .first))
           (c .enum-told .given .1)
           (omega arith),
       kept-then (a .first) (a .first + b .loop .a) (a .index .now) x y (omega arith) (b .loop .inv .3) (call .read-step .ensures .1),
@@ -88,17 +90,17 @@ loop-again c =
       omega arith,
       search needs,
       turn (readStep k (a .s)) stepBytes no-step bs (a .at)
-          (λ i v. StepCell k bs x (a .first + i) v)
-          (λ v. StepCell k bs y (a .first + b .loop .a) v)
+          (λ i v. StepEntry k bs x (a .first + i) v)
+          (λ v. StepEntry k bs y (a .first + b .loop .a) v)
           (b .loop .a)
           (b .loop .to)
           (call .read-step .result)
           (b .loop .inv .2)
           (call .read-step .ensures .0)
-          (λ i v. StepCell k bs y (a .first + i) v)
+          (λ i v. StepEntry k bs y (a .first + i) v)
           (c .before .got .given .0 .0)
           (c .before .got .given .1)
-          (λ i v h g. kept-at (λ e. Cell bs (v .next * (k + 1) + 1) (v .output) e) (a .first + b .loop .a) (a .first + i) x y (call .read-step .ensures .1) (omega arith) g)
+          (λ i v h g. kept-at (λ e. EntryOf bs (v .next * (k + 1) + 1) (v .output) e) (a .first + b .loop .a) (a .first + i) x y (call .read-step .ensures .1) (omega arith) g)
           (λ v g. g),
       kept-then (a .first) (a .first + b .loop .a) (a .index .now) x y (omega arith) (b .loop .inv .3) (call .read-step .ensures .1),
     )

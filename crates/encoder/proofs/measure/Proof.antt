@@ -7,7 +7,7 @@ use lib.ListN.{length}
 use Rattle.transducers.specs.Table.{Row}
 use Rattle.tables.specs.Bytes.{rowBytes}
 use Rattle.encoder.specs.Encoding.{rowIn}
-use Rattle.encoder.proofs.Laws.{first-parts, parts-measured, table-long}
+use Rattle.encoder.proofs.Encoding.{first-parts, parts-measured, table-long}
 use Rattle.encoder.proofs.measure.Statement.{statement}
 use Rattle.encoder.proofs.measure.Tie as tie
 use Rattle.encoder.proofs.measure.Reads as reads

@@ -1,7 +1,7 @@
 -- `encoder::measure_row` meets its contract.
 use native.Mathlib.Omega.{arith}
 use borrow.Author.Needs.{needs}
-use Rattle.encoder.proofs.Laws.{row-long}
+use Rattle.encoder.proofs.Encoding.{row-long}
 use Rattle.encoder.proofs.measure_row.Statement.{statement}
 use Rattle.encoder.proofs.measure_row.Tie as tie
 use Rattle.encoder.proofs.measure_row.Reads as reads

@@ -6,7 +6,7 @@ use mathlib.Core.Path.{_≡_, ap, _∙_}
 use lib.ListN.{length}
 use Rattle.tables.specs.Bytes.{stepBytes}
 use Rattle.encoder.specs.Encoding.{stepIn}
-use Rattle.encoder.proofs.Laws.{first-parts, parts-measured, step-long, inner-in}
+use Rattle.encoder.proofs.Encoding.{first-parts, parts-measured, step-long, inner-in}
 use Rattle.encoder.proofs.measure_steps.Statement.{statement}
 use Rattle.encoder.proofs.measure_steps.Tie as tie
 use Rattle.encoder.proofs.measure_steps.Reads as reads

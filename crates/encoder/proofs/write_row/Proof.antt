@@ -9,7 +9,7 @@ use Rattle.tables.specs.Bytes.{tagged, joined, stepBytes, rowBytes}
 use Rattle.workspace.specs.Cells.{word}
 use Rattle.workspace.proofs.Words.{word-length}
 use Rattle.encoder.specs.Encoding.{stepsIn, rowIn}
-use Rattle.encoder.proofs.Laws.{wrote-two, wrote-then, wrote-is}
+use Rattle.encoder.proofs.Encoding.{wrote-two, wrote-then, wrote-is}
 use Rattle.encoder.proofs.write_row.Statement.{statement}
 use Rattle.encoder.proofs.write_row.Tie as tie
 use Rattle.encoder.proofs.write_row.Reads as reads

@@ -6,8 +6,8 @@ use mathlib.Core.Path.{_≡_, ap, _∙_}
 use lib.ListN.{length}
 use Rattle.transducers.specs.Table.{Row}
 use Rattle.tables.specs.Bytes.{rowBytes}
-use Rattle.encoder.specs.Encoding.{Wrote, rowIn}
-use Rattle.encoder.proofs.Laws.{first-parts, parts-room, parts-wrote, wrote-is}
+use Rattle.encoder.specs.Encoding.{BytesWritten, rowIn}
+use Rattle.encoder.proofs.Encoding.{first-parts, parts-room, parts-wrote, wrote-is}
 use Rattle.encoder.proofs.write_rows.Statement.{statement}
 use Rattle.encoder.proofs.write_rows.Tie as tie
 use Rattle.encoder.proofs.write_rows.Reads as reads
@@ -16,7 +16,7 @@ use Rattle.encoder.proofs.write_row.Reads as write-row-reads
 
 abbrev Inv-loop : tie.InvT-loop
 Inv-loop work g base n out₀ from to₀ q₀ out to q =
-    (q ≤ n) × (length out ≡ length out₀) × Wrote out₀ out from (first-parts rowBytes (λ q. rowIn g work (base + q)) q) to
+    (q ≤ n) × (length out ≡ length out₀) × BytesWritten out₀ out from (first-parts rowBytes (λ q. rowIn g work (base + q)) q) to
 
 abbrev μ-loop : tie.MeasureT-loop
 μ-loop work g base n out₀ from to₀ q₀ out to q = n - q

@@ -7,7 +7,7 @@ use lib.ListN.{length-set}
 use Rattle.tables.specs.Bytes.{tagged}
 use Rattle.tables.proofs.Words.{length-tagged}
 use Rattle.workspace.specs.Cells.{word}
-use Rattle.encoder.proofs.Laws.{wrote-three, wrote-is}
+use Rattle.encoder.proofs.Encoding.{wrote-three, wrote-is}
 use Rattle.encoder.proofs.write_step.Statement.{statement}
 use Rattle.encoder.proofs.write_step.Tie as tie
 use Rattle.encoder.proofs.write_step.Reads as reads

@@ -5,8 +5,8 @@ use borrow.Author.Needs.{needs}
 use mathlib.Core.Path.{_≡_, ap, _∙_}
 use lib.ListN.{length}
 use Rattle.tables.specs.Bytes.{stepBytes}
-use Rattle.encoder.specs.Encoding.{Wrote, stepIn}
-use Rattle.encoder.proofs.Laws.{first-parts, parts-room, parts-wrote, wrote-is}
+use Rattle.encoder.specs.Encoding.{BytesWritten, stepIn}
+use Rattle.encoder.proofs.Encoding.{first-parts, parts-room, parts-wrote, wrote-is}
 use Rattle.encoder.proofs.write_steps.Statement.{statement}
 use Rattle.encoder.proofs.write_steps.Tie as tie
 use Rattle.encoder.proofs.write_steps.Reads as reads
@@ -15,7 +15,7 @@ use Rattle.encoder.proofs.write_step.Reads as write-step-reads
 
 abbrev Inv-loop : tie.InvT-loop
 Inv-loop work g r out₀ from tags to₀ a₀ out to a =
-    (a ≤ tags) × (length out ≡ length out₀) × Wrote out₀ out from (first-parts stepBytes (stepIn g work r) a) to
+    (a ≤ tags) × (length out ≡ length out₀) × BytesWritten out₀ out from (first-parts stepBytes (stepIn g work r) a) to
 
 abbrev μ-loop : tie.MeasureT-loop
 μ-loop work g r out₀ from tags to₀ a₀ out to a = tags - a

@@ -7,7 +7,7 @@ use mathlib.Core.List.{List, [], _∷_, _++_}
 use lib.ListN.{length, length-set, length-append}
 use Rattle.tables.specs.Bytes.{joined, rowBytes}
 use Rattle.encoder.specs.Encoding.{rowsIn}
-use Rattle.encoder.proofs.Laws.{wrote-head, wrote-is, encode-is}
+use Rattle.encoder.proofs.Encoding.{wrote-head, wrote-is, encode-is}
 use Rattle.encoder.proofs.write_table.Statement.{statement}
 use Rattle.encoder.proofs.write_table.Tie as tie
 use Rattle.encoder.proofs.write_table.Reads as reads

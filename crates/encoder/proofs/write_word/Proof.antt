@@ -8,8 +8,8 @@ use lib.ListN.{length, take, length-set}
 use Rattle.tables.specs.Bytes.{tagged}
 use Rattle.workspace.specs.Cells.{at, word}
 use Rattle.workspace.proofs.Words.{word-length}
-use Rattle.encoder.specs.Encoding.{Wrote}
-use Rattle.encoder.proofs.Laws.{tagged-next, tagged-all, tagged-length, wrote-none, tag-got}
+use Rattle.encoder.specs.Encoding.{BytesWritten}
+use Rattle.encoder.proofs.Encoding.{tagged-next, tagged-all, tagged-length, wrote-none, tag-got}
 use Rattle.encoder.proofs.write_word.Statement.{statement}
 use Rattle.encoder.proofs.write_word.Tie as tie
 use Rattle.encoder.proofs.write_word.Reads as reads
@@ -19,7 +19,7 @@ use Rattle.workspace.proofs.get.Reads as get-reads
 
 abbrev Inv-loop : tie.InvT-loop
 Inv-loop work g r c s command out₀ from n to₀ i₀ out to i =
-    (i ≤ n) × (length out ≡ length out₀) × (to ≡ from + 2 * i) × (from + 2 * n ≤ length out₀) × Wrote out₀ out from (tagged command (take i (word g work r c s))) to
+    (i ≤ n) × (length out ≡ length out₀) × (to ≡ from + 2 * i) × (from + 2 * n ≤ length out₀) × BytesWritten out₀ out from (tagged command (take i (word g work r c s))) to
 
 abbrev μ-loop : tie.MeasureT-loop
 μ-loop work g r c s command out₀ from n to₀ i₀ out to i = n - i

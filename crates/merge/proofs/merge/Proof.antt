@@ -1,6 +1,6 @@
 use Rattle.merge.proofs.Seats.{part-seated}
 use Rattle.merge.proofs.Rounds.{Worded, Still, weight, flag, worded-first, worded-next, still-next, round-falls, merged-done}
-use Rattle.merge.specs.Classes.{Part}
+use Rattle.merge.specs.Classes.{Partition}
 use Rattle.workspace.proofs.Regions.{kept-none, kept-then, kept-wider}
 use Rattle.workspace.specs.Entries.{CLASS, LINK}
 use Rattle.workspace.specs.Cells.{Kept, Spare}
@@ -17,7 +17,7 @@ use Rattle.merge.proofs.round.Reads as round-reads
 use Rattle.merge.proofs.start_classes.Reads as start-classes-reads
 
 abbrev Inv-loop : tie.InvT-loop
-Inv-loop work₀ g base n going₀ work going = Kept g work₀ work (Spare g base (base + n) CLASS (LINK + 1)) × Part g work base n × Worded g work base n × (going ≡ false → Still g work base n)
+Inv-loop work₀ g base n going₀ work going = Kept g work₀ work (Spare g base (base + n) CLASS (LINK + 1)) × Partition g work base n × Worded g work base n × (going ≡ false → Still g work base n)
 
 abbrev μ-loop : tie.MeasureT-loop
 μ-loop work₀ g base n going₀ work going = weight g work base n + flag going

@@ -1,4 +1,5 @@
-use Rattle.merge.proofs.Keys.{all-next, decides-no, decides-yes}
+use Rattle.merge.proofs.Keys.{all-next}
+use Rattle.words.proofs.Decides.{decides-no, decides-yes}
 use Rattle.merge.specs.Classes.{classOf}
 use Rattle.workspace.proofs.Views.{next-is, next-at-below}
 use Rattle.workspace.specs.Holds.{standing}

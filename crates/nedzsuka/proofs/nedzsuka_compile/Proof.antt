@@ -2,14 +2,14 @@
 use borrow.Author.Needs.{needs}
 use mathlib.Core.Path.{sym, ap, _∙_, subst}
 use lib.ListN.{length}
-use Rattle.nedzsuka.specs.Packed.{packed, Legible}
-use Rattle.nedzsuka.proofs.Number.{legible-compile}
+use Rattle.packing.specs.Packed.{packed, Legible}
+use Rattle.nedzsuka.proofs.Legible.{legible-compile}
 use Rattle.nedzsuka.proofs.nedzsuka_compile.Statement.{statement}
 use Rattle.nedzsuka.proofs.nedzsuka_compile.Tie as tie
 use Rattle.nedzsuka.proofs.nedzsuka_compile.Reads as reads
 use Rattle.nedzsuka.proofs.nedzsuka_compile.Lts as lts
 use Rattle.compiler.proofs.compile.Reads as compile-reads
-use Rattle.nedzsuka.proofs.pack_compile.Reads as pack-compile-reads
+use Rattle.packing.proofs.pack_compile.Reads as pack-compile-reads
 
 compile-requires : tie.Need-compile-requires
 compile-requires c κs = search needs

@@ -2,13 +2,13 @@
 use borrow.Author.Needs.{needs}
 use mathlib.Core.Path.{sym, ap, _∙_, subst}
 use lib.ListN.{length}
-use Rattle.nedzsuka.specs.Packed.{packed, Legible}
-use Rattle.nedzsuka.proofs.Number.{legible-book}
+use Rattle.packing.specs.Packed.{packed, Legible}
+use Rattle.nedzsuka.proofs.Legible.{legible-book}
 use Rattle.nedzsuka.proofs.nedzsuka_run_book.Statement.{statement}
 use Rattle.nedzsuka.proofs.nedzsuka_run_book.Tie as tie
 use Rattle.nedzsuka.proofs.nedzsuka_run_book.Reads as reads
 use Rattle.nedzsuka.proofs.nedzsuka_run_book.Lts as lts
-use Rattle.nedzsuka.proofs.pack_run.Reads as pack-run-reads
+use Rattle.packing.proofs.pack_run.Reads as pack-run-reads
 use Rattle.tagger.proofs.run_book.Reads as run-book-reads
 
 run-book-requires : tie.Need-run-book-requires

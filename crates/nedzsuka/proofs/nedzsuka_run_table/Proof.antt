@@ -2,13 +2,13 @@
 use borrow.Author.Needs.{needs}
 use mathlib.Core.Path.{sym, ap, _∙_, subst}
 use lib.ListN.{length}
-use Rattle.nedzsuka.specs.Packed.{packed, Legible}
-use Rattle.nedzsuka.proofs.Number.{legible-table}
+use Rattle.packing.specs.Packed.{packed, Legible}
+use Rattle.nedzsuka.proofs.Legible.{legible-table}
 use Rattle.nedzsuka.proofs.nedzsuka_run_table.Statement.{statement}
 use Rattle.nedzsuka.proofs.nedzsuka_run_table.Tie as tie
 use Rattle.nedzsuka.proofs.nedzsuka_run_table.Reads as reads
 use Rattle.nedzsuka.proofs.nedzsuka_run_table.Lts as lts
-use Rattle.nedzsuka.proofs.pack_run.Reads as pack-run-reads
+use Rattle.packing.proofs.pack_run.Reads as pack-run-reads
 use Rattle.transduction.proofs.run_table.Reads as run-table-reads
 
 run-table-requires : tie.Need-run-table-requires

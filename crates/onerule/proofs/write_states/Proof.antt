@@ -52,14 +52,15 @@ same-length c = c .before .loop .inv .1 .kept .long
 returns : tie.Need-returns Inv-loop μ-loop
 returns c = let st = c .before .before .before .before in let a = st .args in let r = rule (a .u .now) (a .place) (a .tag) in let l = c .before .loop in let last : l .j ≡ length (a .u .now) + 1 = omega arith in
     record {
-      table = ruleTable (a .g .tags) r;
-      long = length-table (a .g .tags) (oneRule r) ∙ (omega arith);
       few = omega arith;
-      holds =
-          holds-table (a .g) (l .work) (a .base) (oneRule r) (omega arith) (inside-rule (a .u .now) (a .place) (a .tag) (a .g .tags))
-          (roomy-rule (a .u .now) (a .place) (a .tag) (a .g) (st .pre .0 .place-inside) (st .pre .0 .deep)) (λ q h. l .inv .1 .states q (omega arith));
-      doing = λ m v. doing-rule m (a .g .tags) r v;
       kept = rw last (l .inv .1 .kept);
+      stands = λ m v.
+          record {
+            made = record { table = ruleTable (a .g .tags) r; long = length-table (a .g .tags) (oneRule r) ∙ (omega arith); doing = doing-rule m (a .g .tags) r v; so = tt };
+            holds =
+                holds-table (a .g) (l .work) (a .base) (oneRule r) (omega arith) (inside-rule (a .u .now) (a .place) (a .tag) (a .g .tags))
+                (roomy-rule (a .u .now) (a .place) (a .tag) (a .g) (st .pre .0 .place-inside) (st .pre .0 .deep)) (λ q h. l .inv .1 .states q (omega arith));
+          };
     }
 
 pub write-states-spec : {M : Type 1} → statement M

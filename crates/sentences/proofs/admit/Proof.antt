@@ -4,7 +4,7 @@ use native.Mathlib.Omega.{arith}
 use mathlib.Core.Path.{sym, ap, _∙_}
 use Rattle.sentences.specs.Admission.{admissionOutcome, admission}
 use Rattle.sentences.specs.declared.Admission.{Admission}
-use Rattle.sentences.proofs.Laws.{run-refused, run-room, run-made}
+use Rattle.sentences.proofs.Run.{run-refused, run-room, run-made}
 use Rattle.sentences.proofs.admit.Statement.{statement}
 use Rattle.sentences.proofs.admit.Tie as tie
 use Rattle.sentences.proofs.admit.Reads as reads

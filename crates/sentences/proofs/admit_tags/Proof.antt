@@ -1,7 +1,7 @@
 -- `sentences::admit_tags` meets its contract: each return is a case of `admitted`.
 use borrow.Author.Needs.{needs}
 use native.Mathlib.Omega.{arith}
-use Rattle.sentences.proofs.Laws.{admitted-long, admitted-tag, admitted-all}
+use Rattle.sentences.proofs.Run.{admitted-long, admitted-tag, admitted-all}
 use Rattle.sentences.proofs.admit_tags.Statement.{statement}
 use Rattle.sentences.proofs.admit_tags.Tie as tie
 use Rattle.sentences.proofs.admit_tags.Reads as reads

@@ -1,10 +1,10 @@
-use Prim.Native.Nat.{ℕ, _≤_, _-_, _+_}
+use Prim.Native.Nat.{_≤_, _-_}
 use native.Mathlib.Omega.{arith}
 use borrow.Author.Needs.{needs}
 use mathlib.Core.Path.{_≡_}
 use lib.ListN.{length, length-set}
 use lib.Seq.{paste}
-use Rattle.sentences.proofs.Laws.{copy-next, copy-whole}
+use Rattle.sentences.proofs.Run.{copy-next, copy-whole}
 use Rattle.sentences.proofs.copy.Statement.{statement}
 use Rattle.sentences.proofs.copy.Tie as tie
 use Rattle.sentences.proofs.copy.Reads as reads

@@ -5,7 +5,7 @@ use mathlib.Core.Logic.{⊎-elim}
 use mathlib.Core.Path.{_≡_}
 use lib.ListN.{drop}
 use Rattle.words.specs.Word.{differences}
-use Rattle.sentences.proofs.Laws.{same-next, other-next}
+use Rattle.sentences.proofs.Run.{same-next, other-next}
 use Rattle.sentences.proofs.count_near.Statement.{statement}
 use Rattle.sentences.proofs.count_near.Tie as tie
 use Rattle.sentences.proofs.count_near.Reads as reads

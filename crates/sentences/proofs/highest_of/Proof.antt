@@ -1,5 +1,5 @@
 -- `sentences::highest_of` meets its contract. The loop keeps the highest tag of the word: of those passed and of those to come.
-use Prim.Native.Nat.{ℕ, _≤_, _-_, _+_, max}
+use Prim.Native.Nat.{_≤_, _-_, max}
 use native.Mathlib.Omega.{arith}
 use borrow.Author.Needs.{needs}
 use mathlib.Core.Logic.{⊎-elim}
@@ -8,7 +8,7 @@ use mathlib.Core.List.{[]}
 use lib.ListN.{length, drop}
 use lib.Seq.{drop-length}
 use Rattle.sentences.specs.Run.{highest}
-use Rattle.sentences.proofs.Laws.{highest-next}
+use Rattle.sentences.proofs.Run.{highest-next}
 use Rattle.sentences.proofs.highest_of.Statement.{statement}
 use Rattle.sentences.proofs.highest_of.Tie as tie
 use Rattle.sentences.proofs.highest_of.Reads as reads

@@ -2,7 +2,7 @@
 use native.Mathlib.Omega.{arith}
 use borrow.Author.Needs.{needs}
 use mathlib.Core.Path.{refl, _∙_, sym}
-use Rattle.spans.specs.Span.{first, last}
+use Rattle.spans.specs.Span.{firstDifference, lastDifference}
 use Rattle.spans.proofs.Span.{span-unequal, span-whole, span-part, span-inside, is-whole, is-part}
 use Rattle.spans.proofs.changed_span.Statement.{statement}
 use Rattle.spans.proofs.changed_span.Tie as tie
@@ -56,7 +56,7 @@ returns-3 c =
     let a = c .before .before .before .before .before .before .before .args in
     let i = c .before .first-difference in
     let j = c .before .before .before .last-difference in
-    is-part (a .sentence) (a .result) _ (first (a .sentence .now) (a .result .now)) (last (a .sentence .now) (a .result .now)) (i .result) (j .result)
+    is-part (a .sentence) (a .result) _ (firstDifference (a .sentence .now) (a .result .now)) (lastDifference (a .sentence .now) (a .result .now)) (i .result) (j .result)
     (span-part (a .sentence .now) (a .result .now) (search needs) (λ e. c .before .before .if2 .left (j .ensures ∙ e))) (i .ensures) (j .ensures) refl refl refl
 
 pub changed-span-spec : {M : Type 1} → statement M

@@ -1,10 +1,10 @@
 -- `spans::first_difference` meets its contract: the places passed are the same.
-use Prim.Native.Nat.{ℕ, _+_, _-_, _≤_}
+use Prim.Native.Nat.{_+_, _-_, _≤_}
 use native.Mathlib.Omega.{arith}
 use borrow.Author.Needs.{needs}
 use mathlib.Core.Path.{_≡_}
 use lib.ListN.{length, drop}
-use Rattle.spans.specs.Span.{first}
+use Rattle.spans.specs.Span.{firstDifference}
 use Rattle.spans.proofs.Span.{first-here, first-on, first-end}
 use Rattle.spans.proofs.first_difference.Statement.{statement}
 use Rattle.spans.proofs.first_difference.Tie as tie
@@ -12,7 +12,7 @@ use Rattle.spans.proofs.first_difference.Reads as reads
 use Rattle.spans.proofs.first_difference.Lts as lts
 
 abbrev Inv-loop : tie.InvT-loop
-Inv-loop v w i₀ i = (i ≤ length v) × (first v w ≡ i + first (drop i v) (drop i w))
+Inv-loop v w i₀ i = (i ≤ length v) × (firstDifference v w ≡ i + firstDifference (drop i v) (drop i w))
 
 abbrev μ-loop : tie.MeasureT-loop
 μ-loop v w i₀ i = length v - i

@@ -1,10 +1,10 @@
 -- `spans::last_difference` meets its contract: the places passed, from the end, are the same.
-use Prim.Native.Nat.{ℕ, _+_, _-_, _≤_}
+use Prim.Native.Nat.{_-_, _≤_}
 use native.Mathlib.Omega.{arith}
 use borrow.Author.Needs.{needs}
 use mathlib.Core.Path.{_≡_, _∙_, sym}
 use lib.ListN.{length, take}
-use Rattle.spans.specs.Span.{last}
+use Rattle.spans.specs.Span.{lastDifference}
 use Rattle.spans.proofs.Span.{last-start, last-stop, last-down, last-end}
 use Rattle.spans.proofs.last_difference.Statement.{statement}
 use Rattle.spans.proofs.last_difference.Tie as tie
@@ -12,7 +12,7 @@ use Rattle.spans.proofs.last_difference.Reads as reads
 use Rattle.spans.proofs.last_difference.Lts as lts
 
 abbrev Inv-loop : tie.InvT-loop
-Inv-loop v w end₀ end = (end ≤ length v) × (last v w ≡ last (take end v) (take end w))
+Inv-loop v w end₀ end = (end ≤ length v) × (lastDifference v w ≡ lastDifference (take end v) (take end w))
 
 abbrev μ-loop : tie.MeasureT-loop
 μ-loop v w end₀ end = end

@@ -2,14 +2,12 @@
 use Prim.Native.Nat.{ℕ, _-_, _≤_}
 use native.Mathlib.Omega.{arith}
 use borrow.Author.Needs.{needs}
-use mathlib.Core.Path.{_≡_, refl, _∙_, sym, ap}
-use mathlib.Core.List.{List}
-use lib.ListN.{length, getD}
-use Rattle.cascades.specs.Rule.{Rule}
+use mathlib.Core.Path.{_≡_, refl, _∙_, ap}
+use lib.ListN.{length}
 use Rattle.cascades.specs.Rewrite.{applyAll}
 use Rattle.cascades.specs.Value.{ruleOf}
 use Rattle.books.specs.Arrays.{Arrays, holding, rulesOf}
-use Rattle.tagger.proofs.Laws.{rule-next, rule-inside}
+use Rattle.tagger.proofs.Run.{rule-next, rule-inside}
 use Rattle.tagger.proofs.apply_rules.Statement.{statement}
 use Rattle.tagger.proofs.apply_rules.Tie as tie
 use Rattle.tagger.proofs.apply_rules.Reads as reads

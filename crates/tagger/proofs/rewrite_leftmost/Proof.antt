@@ -6,7 +6,7 @@ use mathlib.Core.Logic.{⊎-elim}
 use mathlib.Core.Path.{_≡_, refl, _∙_, sym}
 use lib.ListN.{length, set, length-set}
 use Rattle.cascades.proofs.Rewrite.{From, search-none}
-use Rattle.tagger.proofs.Laws.{found, not-here, not-first}
+use Rattle.tagger.proofs.Run.{found, not-here, not-first}
 use Rattle.tagger.proofs.rewrite_leftmost.Statement.{statement}
 use Rattle.tagger.proofs.rewrite_leftmost.Tie as tie
 use Rattle.tagger.proofs.rewrite_leftmost.Reads as reads

@@ -6,11 +6,11 @@ use mathlib.Core.List.{List}
 use lib.ListN.{length}
 use Rattle.answers.specs.Outcome.{Outcome}
 use Rattle.sentences.specs.Run.{Ran}
-use Rattle.sentences.proofs.Laws.{ran-refused}
+use Rattle.sentences.proofs.Run.{ran-refused}
 use Rattle.books.specs.Arrays.{holding}
 use Rattle.books.proofs.Arrays.{fresh-shaped}
 use Rattle.tagger.specs.Run.{bookRun}
-use Rattle.tagger.proofs.Laws.{book-refused, book-runs, applicable}
+use Rattle.tagger.proofs.Run.{book-refused, book-runs, applicable}
 use Rattle.tagger.proofs.run_book.Statement.{statement}
 use Rattle.tagger.proofs.run_book.Tie as tie
 use Rattle.tagger.proofs.run_book.Reads as reads

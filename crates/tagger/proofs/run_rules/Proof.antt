@@ -6,10 +6,10 @@ use mathlib.Core.List.{List}
 use lib.ListN.{length}
 use Rattle.answers.specs.Outcome.{Outcome}
 use Rattle.sentences.specs.Run.{run}
-use Rattle.sentences.proofs.Laws.{run-accepts, ran-refused, ran-changed}
+use Rattle.sentences.proofs.Run.{run-accepts, ran-refused, ran-changed}
 use Rattle.cascades.specs.Rewrite.{behavior}
 use Rattle.books.specs.Arrays.{holding, cascadeOf}
-use Rattle.tagger.proofs.Laws.{run-refused, run-admitted}
+use Rattle.tagger.proofs.Run.{run-refused, run-admitted}
 use Rattle.tagger.proofs.run_rules.Statement.{statement}
 use Rattle.tagger.proofs.run_rules.Tie as tie
 use Rattle.tagger.proofs.run_rules.Reads as reads

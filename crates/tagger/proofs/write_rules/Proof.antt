@@ -1,7 +1,7 @@
 -- `tagger::write_rules` meets its contract.
 use borrow.Author.Needs.{needs}
 use Rattle.books.specs.Arrays.{holding, rulesOf}
-use Rattle.tagger.proofs.Laws.{front-long, made-long, writes}
+use Rattle.tagger.proofs.Run.{front-long, made-long, writes}
 use Rattle.tagger.proofs.write_rules.Statement.{statement}
 use Rattle.tagger.proofs.write_rules.Tie as tie
 use Rattle.tagger.proofs.write_rules.Reads as reads

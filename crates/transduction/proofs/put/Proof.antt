@@ -7,10 +7,10 @@ use Rattle.transduction.proofs.put.Statement.{statement}
 use Rattle.transduction.proofs.put.Tie as tie
 use Rattle.transduction.proofs.put.Reads as reads
 use Rattle.transduction.proofs.put.Lts as lts
-use Rattle.decoder.proofs.count_of.Reads as count-of-reads
-use Rattle.decoder.proofs.place_of.Reads as place-of-reads
+use Rattle.steps.proofs.count_of.Reads as count-of-reads
+use Rattle.steps.proofs.place_of.Reads as place-of-reads
 use Rattle.transduction.proofs.put_word.Reads as put-word-reads
-use Rattle.decoder.proofs.tag_of.Reads as tag-of-reads
+use Rattle.steps.proofs.tag_of.Reads as tag-of-reads
 
 count-of-requires : tie.Need-count-of-requires
 count-of-requires c κs = search needs

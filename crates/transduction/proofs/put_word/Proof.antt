@@ -1,12 +1,12 @@
 -- `transduction::put_word` meets its contract.
-use Prim.Native.Nat.{ℕ, _+_, _-_, _≤_}
+use Prim.Native.Nat.{ℕ, _-_, _≤_}
 use native.Mathlib.Omega.{arith}
 use borrow.Author.Needs.{needs}
 use mathlib.Core.Path.{_≡_, refl}
 use mathlib.Core.List.{List}
 use lib.ListN.{length, length-set}
 use lib.Seq.{paste, paste-zero}
-use Rattle.decoder.specs.Index.{Stands}
+use Rattle.steps.specs.Entry.{TagsAt}
 use Rattle.transduction.proofs.Output.{put-next}
 use Rattle.transduction.proofs.put_word.Statement.{statement}
 use Rattle.transduction.proofs.put_word.Tie as tie
@@ -17,7 +17,7 @@ abbrev Inv-loop : tie.InvT-loop
 Inv-loop table place count out₀ at j₀ out j =
     (j ≤ count)
     × (length out ≡ length out₀)
-    × ((w : List ℕ) → length w ≡ count → Stands table place w → out ≡ paste out₀ at w j)
+    × ((w : List ℕ) → length w ≡ count → TagsAt table place w → out ≡ paste out₀ at w j)
 
 abbrev μ-loop : tie.MeasureT-loop
 μ-loop table place count out₀ at j₀ out j = count - j

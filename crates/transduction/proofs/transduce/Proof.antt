@@ -1,18 +1,18 @@
 -- `transduction::transduce` meets its contract. The loop keeps the state that the transducer is in, and what it has put out.
-use Prim.Native.Nat.{ℕ, _+_, _-_, _≤_, _<_}
+use Prim.Native.Nat.{_-_, _<_}
 use native.Mathlib.Omega.{arith}
 use borrow.Author.Needs.{needs}
-use mathlib.Core.Path.{_≡_, refl}
-use lib.ListN.{length, drop}
+use mathlib.Core.Path.{refl}
+use lib.ListN.{length}
 use Rattle.transduction.proofs.Turn.{Going, going-start, turn-inside, turn-cell, turn-short, turn-place, turn-room, turn-count, turn-next, end-inside, end-base, end-place, end-count, end-made}
 use Rattle.transduction.proofs.transduce.Statement.{statement}
 use Rattle.transduction.proofs.transduce.Tie as tie
 use Rattle.transduction.proofs.transduce.Reads as reads
 use Rattle.transduction.proofs.transduce.Lts as lts
-use Rattle.decoder.proofs.base_of.Reads as base-of-reads
-use Rattle.decoder.proofs.count_of.Reads as count-of-reads
-use Rattle.decoder.proofs.entry_at.Reads as entry-at-reads
-use Rattle.decoder.proofs.place_of.Reads as place-of-reads
+use Rattle.steps.proofs.base_of.Reads as base-of-reads
+use Rattle.steps.proofs.count_of.Reads as count-of-reads
+use Rattle.steps.proofs.entry_at.Reads as entry-at-reads
+use Rattle.steps.proofs.place_of.Reads as place-of-reads
 use Rattle.transduction.proofs.put.Reads as put-reads
 use Rattle.transduction.proofs.put_word.Reads as put-word-reads
 

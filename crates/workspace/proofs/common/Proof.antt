@@ -3,7 +3,7 @@ use Rattle.workspace.proofs.Words.{word-at, word-length}
 use Rattle.workspace.proofs.Fronts.{meet-start, meet-next, meet-ends, meet-whole}
 use Rattle.workspace.specs.Cells.{word}
 use Rattle.words.specs.Front.{meet}
-use lib.ListN.{length, take, drop, getD}
+use lib.ListN.{length, take, drop}
 use mathlib.Core.Path.{_≡_, sym, _∙_}
 use Prim.Native.Nat.{_+_, _-_, _≤_}
 use native.Mathlib.Omega.{arith}

@@ -1,9 +1,8 @@
 -- `build::byte` meets its contract.
-use Prim.Native.Nat.{ℕ, _-_, _≤_}
+use Prim.Native.Nat.{_-_}
 use native.Mathlib.Omega.{arith}
 use borrow.Author.Needs.{needs}
-use mathlib.Core.Path.{_≡_, refl}
-use lib.ListN.{length, length-set}
+use lib.ListN.{length-set}
 use Rattle.cases_tables.proofs.build.byte.Statement.{statement}
 use Rattle.cases_tables.proofs.build.byte.Tie as tie
 use Rattle.cases_tables.proofs.build.byte.Reads as reads

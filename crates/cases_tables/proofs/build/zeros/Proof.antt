@@ -1,9 +1,8 @@
 -- `build::zeros` meets its contract.
-use Prim.Native.Nat.{ℕ, _-_, _≤_}
-use native.Mathlib.Omega.{arith}
+use Prim.Native.Nat.{_-_, _≤_}
 use borrow.Author.Needs.{needs}
-use mathlib.Core.Path.{_≡_, refl}
-use lib.ListN.{length, length-set}
+use mathlib.Core.Path.{_≡_}
+use lib.ListN.{length}
 use Rattle.cases_tables.proofs.build.zeros.Statement.{statement}
 use Rattle.cases_tables.proofs.build.zeros.Tie as tie
 use Rattle.cases_tables.proofs.build.zeros.Reads as reads

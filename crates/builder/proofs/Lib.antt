@@ -1,0 +1,3 @@
+-- Laws of building a table rule by rule.
+pub mod Ending
+pub mod Progress

@@ -1,0 +1,2 @@
+-- From rules to the bytes of a table.
+pub mod Rules

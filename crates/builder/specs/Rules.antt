@@ -1,0 +1,32 @@
+-- Compiling the rules that the reader's arrays hold.
+use Prim.Native.Nat.{ℕ, _≤_}
+use mathlib.Core.Path.{_≡_}
+use mathlib.Core.List.{List}
+use Rattle.limits.specs.Limits.{most-states, most-tags, work-rows, work-depth}
+use Rattle.answers.specs.Outcome.{Outcome}
+use Rattle.answers.specs.Answer.{compileOutcome}
+use Rattle.answers.specs.declared.CompileAnswer.{CompileAnswer}
+use Rattle.sentences.specs.Run.{written}
+use Rattle.books.specs.Arrays.{Arrays, RulesHeld}
+use Rattle.compilation.specs.Compile.{longOf}
+use Rattle.workspace.specs.declared.Grid.{Grid}
+use Rattle.workspace.specs.Cells.{Sized}
+
+-- the answer of a part of compiling, and the output slice at exit
+pub record Gave (o : Outcome (List ℕ)) (before after : List ℕ) (answer : CompileAnswer) : Type 0 where
+  pub answered : compileOutcome answer ≡ longOf o
+  pub wrote : after ≡ written o before
+
+-- what has been read: a ceiling in its range and valid rules in the arrays
+pub record Readable (k ceiling m : ℕ) (a : Arrays) : Type 0 where
+  pub some : 1 ≤ ceiling
+  pub most : ceiling ≤ most-states
+  pub tags : k ≤ most-tags
+  pub held : RulesHeld k m a
+
+-- and the rows have the size that document 01 gives them
+pub record Compilable (g : Grid) (W : List ℕ) (ceiling m : ℕ) (a : Arrays) : Type 0 where
+  pub sized : Sized g W
+  pub rows : g .rows ≡ work-rows ceiling
+  pub depth : g .depth ≡ work-depth m
+  pub readable : Readable (g .tags) ceiling m a

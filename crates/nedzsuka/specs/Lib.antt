@@ -1,2 +1,0 @@
--- The functions for C.
-pub mod Packed

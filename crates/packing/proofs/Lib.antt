@@ -1,0 +1,2 @@
+-- Laws of the number.
+pub mod Number

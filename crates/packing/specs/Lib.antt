@@ -1,0 +1,2 @@
+-- An outcome as one number.
+pub mod Packed

@@ -1,0 +1,48 @@
+// An answer as the one number that a function for C gives (document 01, "host door").
+use answers::CompileAnswer;
+use answers::Refusal;
+use answers::RunAnswer;
+ghost use mathlib.Core.Path.{_≡_};
+ghost use Prim.Native.Nat.{_+_, _*_, _^_, _<_};
+ghost use Rattle.answers.specs.Answer.{refusal, runOutcome, compileOutcome};
+ghost use Rattle.packing.specs.Packed.{packed, Legible};
+
+fn pack(upper: usize, number: u8) -> u64
+    requires { ⌜ upper < 2 ^ 56 ⌝ }
+    ensures { λ r. ⌜ r ≡ upper * 256 + number ⌝ }
+{
+    upper as u64 * 256 + number as u64
+}
+
+fn pack_refusal(given: Refusal) -> u64
+    requires { ⌜ Legible (refusal given) ⌝ }
+    ensures { λ r. ⌜ r ≡ packed (refusal given) ⌝ }
+{
+    match given {
+        Refusal::AtByte { number, .. } => pack(0, number),
+        Refusal::AtRule { number, rule } => pack(rule, number),
+        Refusal::Bare { number } => pack(0, number),
+    }
+}
+
+// Of a run.
+pub fn pack_run(answer: RunAnswer) -> u64
+    requires { ⌜ Legible (runOutcome answer) ⌝ }
+    ensures { λ r. ⌜ r ≡ packed (runOutcome answer) ⌝ }
+{
+    match answer {
+        RunAnswer::Changed(count) => pack(count, 0),
+        RunAnswer::Refused(given) => pack_refusal(given),
+    }
+}
+
+// Of compile.
+pub fn pack_compile(answer: CompileAnswer) -> u64
+    requires { ⌜ Legible (compileOutcome answer) ⌝ }
+    ensures { λ r. ⌜ r ≡ packed (compileOutcome answer) ⌝ }
+{
+    match answer {
+        CompileAnswer::Table(size) => pack(size, 0),
+        CompileAnswer::Refused(given) => pack_refusal(given),
+    }
+}
