@@ -1,0 +1,151 @@
+/* Makes one call of the library for each line of standard input and prints one line for each; cases/calls.sh has the lines.
+
+   run_table ROOM TABLE / SENTENCE      the number of changed tags or the refusal, then the output slice
+   run_book ROOM BOOK / SENTENCE        the same
+   compile CEILING ENTRIES ROOM BOOK    the table's states and bytes and on how many sentences it does what the book does, or the refusal
+   slices CEILING ENTRIES ROOM BOOK     states and bytes or the refusal, then how much of the slices' memory has changed
+
+   ROOM is the length of the output slice, ENTRIES that of the work slice; bytes are pairs of hexadecimal digits. Both slices are the
+   front of longer memory, which holds sevens before each call. A line that can't be read ends the program with status 2. */
+#include <nedzsuka.h>
+
+#include <inttypes.h>
+#include <stdio.h>
+#include <stdlib.h>
+#include <string.h>
+
+/* The entries are enough for sixteen rules over two tags at every ceiling, and for no rules over 48 tags at ceilings up to 172. */
+enum { MOST_ENTRIES = 1081344, MOST_BYTES = 65536, LONGEST_LINE = 1 << 18, DRAWN = 400, LENGTHS = 41 };
+
+static char line[LONGEST_LINE];
+static size_t lines;
+static uint8_t first[MOST_BYTES], sentence[MOST_BYTES], out[MOST_BYTES]; /* first: the book or table */
+static uint16_t work[MOST_ENTRIES];
+
+static void unreadable(const char *why)
+{
+    fprintf(stderr, "calls: line %zu: %s\n", lines, why);
+    exit(2);
+}
+
+static uint32_t read_number(uint32_t most)
+{
+    const char *word = strtok(NULL, " \n");
+    unsigned long long number = word == NULL ? 0 : strtoull(word, NULL, 10);
+
+    if (word == NULL || word[strspn(word, "0123456789")] != '\0' || number > most)
+        unreadable("a number is missing, wrong or too large");
+    return (uint32_t)number;
+}
+
+/* Reads bytes up to the end of the line, or up to a slash where there has to be one, and answers how many they are. */
+static size_t read_bytes(uint8_t *bytes, int slash)
+{
+    const char *word = strtok(NULL, " \n");
+    size_t length = 0;
+
+    for (; word != NULL && strcmp(word, "/") != 0; word = strtok(NULL, " \n")) {
+        if (strlen(word) != 2 || strspn(word, "0123456789abcdef") != 2 || length == MOST_BYTES)
+            unreadable("a byte is wrong or one too many");
+        bytes[length++] = (uint8_t)strtoul(word, NULL, 16);
+    }
+    if ((word != NULL) != slash)
+        unreadable("a slash is missing or one too many");
+    return length;
+}
+
+/* Whether the answer is a refusal, which is printed. */
+static int refused(uint64_t answer)
+{
+    if (nedzsuka_refusal(answer) == NEDZSUKA_OK)
+        return 0;
+    printf("refused %u", nedzsuka_refusal(answer));
+    if (nedzsuka_value(answer) != 0)
+        printf(" at rule %" PRIu64, nedzsuka_value(answer));
+    return 1;
+}
+
+static void run(int table)
+{
+    size_t room = read_number(MOST_BYTES), first_len = read_bytes(first, 1), length = read_bytes(sentence, 0);
+    uint64_t answer = (table ? nedzsuka_run_table : nedzsuka_run_book)(first, first_len, sentence, length, out, room);
+
+    if (!refused(answer))
+        printf("%" PRIu64 " changed", nedzsuka_value(answer));
+    printf(", output");
+    for (size_t i = 0; i < room; i++)
+        printf(" %d", out[i]);
+}
+
+/* On how many drawn sentences neither the book nor its table refuses, and both answer the same and leave the same in the output slice. The
+   tags of a sentence come from the numbers after its own, in the sequence of many a C library. */
+static int agreements(size_t book_len, size_t table_len)
+{
+    uint8_t by[2][LENGTHS];
+    int same = 0;
+
+    for (size_t i = 0; i < DRAWN; i++) {
+        size_t length = i % LENGTHS;
+        uint64_t x = i, answer;
+        for (size_t j = 0; j < length; j++) {
+            x = (x * 1103515245 + 12345) % 0x80000000;
+            sentence[j] = (uint8_t)(x / 0x1000000 % first[1]);
+        }
+        memset(by, 7, sizeof by);
+        answer = nedzsuka_run_book(first, book_len, sentence, length, by[0], LENGTHS);
+        same += nedzsuka_refusal(answer) == NEDZSUKA_OK &&
+                nedzsuka_run_table(out, table_len, sentence, length, by[1], LENGTHS) == answer && memcmp(by[0], by[1], LENGTHS) == 0;
+    }
+    return same;
+}
+
+static void print_changed(void)
+{
+    size_t entries = 0, bytes = 0;
+
+    for (size_t i = 0; i < MOST_ENTRIES; i++)
+        entries += work[i] != 7;
+    for (size_t i = 0; i < MOST_BYTES; i++)
+        bytes += out[i] != 7;
+    printf("; %zu entries and %zu bytes other than before", entries, bytes);
+}
+
+static void compile(int slices)
+{
+    size_t ceiling = read_number(UINT32_MAX), entries = read_number(MOST_ENTRIES), room = read_number(MOST_BYTES);
+    size_t book_len = read_bytes(first, 0);
+    uint64_t answer = nedzsuka_compile(first, book_len, ceiling, work, entries, out, room);
+
+    if (!refused(answer))
+        printf("states %d, bytes %" PRIu64, out[2] * 256 + out[3], nedzsuka_value(answer));
+    if (slices)
+        print_changed();
+    else if (nedzsuka_refusal(answer) == NEDZSUKA_OK)
+        printf(", agree on %d of %d sentences", agreements(book_len, (size_t)nedzsuka_value(answer)), DRAWN);
+}
+
+static void answer_line(const char *word)
+{
+    memset(out, 7, sizeof out);
+    for (size_t i = 0; i < MOST_ENTRIES; i++)
+        work[i] = 7;
+    if (word != NULL && (strcmp(word, "run_table") == 0 || strcmp(word, "run_book") == 0))
+        run(strcmp(word, "run_table") == 0);
+    else if (word != NULL && (strcmp(word, "compile") == 0 || strcmp(word, "slices") == 0))
+        compile(strcmp(word, "slices") == 0);
+    else
+        unreadable("it doesn't begin with a call's name");
+    putchar('\n');
+}
+
+/* Lines are written one by one, so that after a crash they tell which call it was. */
+int main(void)
+{
+    setvbuf(stdout, NULL, _IOLBF, BUFSIZ);
+    for (lines = 1; fgets(line, sizeof line, stdin) != NULL; lines++) {
+        if (strchr(line, '\n') == NULL && !feof(stdin))
+            unreadable("it is too long");
+        answer_line(strtok(line, " \n"));
+    }
+    return 0;
+}

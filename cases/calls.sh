@@ -1,0 +1,218 @@
+# cases/calls.sh: calls of the library for C and what cases/calls.c prints for them; read by cases/run, whose call and times are used here.
+
+# Book A of document 01, and its table.
+book_a='20 02 21 00 01 22 00 22 01 00'
+table_a=(30 02 00 03
+    31 00 33 00 01 33 00 00 34 01
+    31 01 32 00 33 00 01 34 00 33 00 02 34 01 34 01
+    31 00 33 00 02 34 00 33 00 02 34 01 00)
+
+# ---- Runs ----
+
+# run_a NAME SENTENCE RESULT: A's table, and A itself, with an output slice of seven bytes.
+run_a() {
+    call "table A, $1" "run_table 7 ${table_a[*]} / $2" "$3"
+    call "book A, $1" "run_book 7 $book_a / $2" "$3"
+}
+
+run_a 'no tags' '' '0 changed, output 7 7 7 7 7 7 7'
+run_a '0' '00' '0 changed, output 0 7 7 7 7 7 7'
+run_a '0 0 1 0 1' '00 00 01 00 01' '1 changed, output 0 1 1 0 1 7 7'
+run_a '1 1 0 0' '01 01 00 00' '0 changed, output 1 1 0 0 7 7 7'
+run_a 'a tag not below K' '00 02 01' 'refused 4, output 7 7 7 7 7 7 7'
+run_a 'more tags than room' '00 01 01 01 01 01 01 01' 'refused 11, output 7 7 7 7 7 7 7'
+run_a 'more tags than room and a tag not below K' '00 01 01 01 01 01 01 02' 'refused 4, output 7 7 7 7 7 7 7'
+run_a 'the longest sentence, no room' "$(times 65535 ' 00')" 'refused 11, output 7 7 7 7 7 7 7'
+longer=$(times 65536 ' 03')
+run_a 'a longer sentence with a tag not below K' "$longer" 'refused 13, output 7 7 7 7 7 7 7'
+call 'no table, a longer sentence' "run_table 2 30 / $longer" 'refused 12, output 7 7'
+
+# ---- Tables ----
+
+# well_formed NAME TABLE, malformed NAME TABLE: the table is read, by a run over no tags.
+well_formed() { call "$1" "run_table 2 $2 /" '0 changed, output 7 7'; }
+malformed() { call "$1" "run_table 2 $2 /" 'refused 12, output 7 7'; }
+
+# identity K: the identity of one state.
+identity() {
+    printf '30 %02x 00 01 31 00' "$1"
+    printf ' 33 00 00 34 %02x' $(seq 0 $(($1 - 1)))
+    printf ' 00'
+}
+
+# row S STATES: states over two tags that put out what they read; each goes to the next one, the last to itself. The head says S.
+row() {
+    local q next step
+    printf '30 02 %02x %02x' $(($1 / 256)) $(($1 % 256))
+    for ((q = 1; q <= $2; q++)); do
+        next=$((q < $2 ? q : q - 1))
+        printf -v step '33 %02x %02x 34' $((next / 256)) $((next % 256))
+        printf ' 31 00 %s 00 %s 01' "$step" "$step"
+    done
+    printf ' 00'
+}
+
+# ladder TOP: the identity over two tags, with states that hold 0, 1, .. TOP zeros. A 0 leads to the state that holds one more, in the last
+# to itself; a 1 leads to state 0.
+ladder() {
+    local q held= put=
+    printf '30 02 00 %02x' $(($1 + 1))
+    for ((q = 0; q < $1; q++)); do
+        printf ' 31 %02x%s 33 00 %02x 33 00 00%s 34 01' "$q" "$held" $((q + 1)) "$put"
+        held+=' 32 00' put+=' 34 00'
+    done
+    printf ' 31 %02x%s 33 00 %02x 34 00 33 00 00%s 34 01 00' "$1" "$held" "$1" "$put"
+}
+
+# K
+well_formed 'identity, K 2' "$(identity 2)"
+call 'identity, K 2, 1 0 1' "run_table 4 $(identity 2) / 01 00 01" '0 changed, output 1 0 1 7'
+well_formed 'identity, most tags' "$(identity 48)"
+call 'identity, most tags, 47 0 31' "run_table 4 $(identity 48) / 2f 00 1f" '0 changed, output 47 0 31 7'
+malformed 'identity, one tag more' "$(identity 49)"
+malformed 'identity, K 1' "$(identity 1)"
+# Held tags
+table=$(ladder 80)
+well_formed 'most held tags' "$table"
+call 'most held tags, 84 times 0' "run_table 85 $table /$(times 84 ' 00')" "0 changed, output$(times 84 ' 0') 7"
+malformed 'one held tag more' "$(ladder 81)"
+# S
+table=$(row 256 256)
+well_formed 'most states' "$table"
+call 'most states, 1 0 1' "run_table 4 $table / 01 00 01" '0 changed, output 1 0 1 7'
+malformed 'one state more' "$(row 257 257)"
+malformed 'no states' "$(row 0 0)"
+malformed 'S 2 with 1 state' "$(row 2 1)"
+malformed 'S 1 with 2 states' "$(row 1 2)"
+
+# a_with AT BYTE: A's table with another byte at a place.
+a_with() {
+    local table=("${table_a[@]}")
+    table[$1]=$2
+    echo "${table[*]}"
+}
+
+# An unknown command in place of each; each front
+well_formed 'table A' "${table_a[*]}"
+for at in 0 4 6 9 12 14 16 18 21 23 26 28 30 32 35 37 40 42; do
+    malformed "table A, unknown command at $at" "$(a_with "$at" 35)"
+done
+for n in {0..42}; do
+    malformed "table A, the first $n bytes" "${table_a[*]:0:n}"
+done
+malformed 'table A and 00' "${table_a[*]} 00"
+# Commands out of place, sizes and numbers of held tags that are not those that follow
+malformed 'table A, 31 for 33' "$(a_with 6 31)"
+malformed 'table A, 00 for 31' "$(a_with 14 00)"
+malformed 'table A, K 1' "$(a_with 1 01)"
+malformed 'table A, K 3' "$(a_with 1 03)"
+malformed 'table A, S 2' "$(a_with 3 02)"
+malformed 'table A, S 4' "$(a_with 3 04)"
+malformed 'table A, one held tag too many' "$(a_with 15 00)"
+malformed 'table A, one held tag too few' "$(a_with 15 02)"
+# Tags and states out of range; other tags are a table too
+malformed 'table A, a held tag not below K' "$(a_with 17 02)"
+malformed 'table A, a tag put out not below K' "$(a_with 13 02)"
+malformed 'table A, a next state not below S' "$(a_with 8 03)"
+malformed 'table A, a next state of two bytes' "$(a_with 7 01)"
+malformed 'table A, a next state that holds too little' "$(a_with 8 00)"
+malformed 'table A, a next state that holds too much' "$(a_with 11 01)"
+well_formed 'table A, other output' "$(a_with 13 00)"
+well_formed 'table A, other held tag' "$(a_with 17 01)"
+# Tables of one state
+malformed 'no bytes' ''
+malformed 'state 0 holds a tag' '30 02 00 01 31 01 32 00 33 00 00 34 00 33 00 00 34 01 00'
+malformed 'two tags put out for one' '30 02 00 01 31 00 33 00 00 34 00 34 00 33 00 00 34 01 00'
+malformed 'no tag put out for one' '30 02 00 01 31 00 33 00 00 33 00 00 34 01 00'
+malformed 'a step too few' '30 02 00 01 31 00 33 00 00 34 00 00'
+malformed 'a step too many' '30 02 00 01 31 00 33 00 00 34 00 33 00 00 34 01 33 00 00 34 01 00'
+
+# ---- Compiling ----
+
+# compile NAME CEILING BOOK RESULT: with the longest slices of cases/calls.c.
+compile() { call "$1" "compile $2 1081344 65536 $3" "$4"; }
+agree='agree on 400 of 400 sentences'
+
+# Ceilings
+ababb='20 02 21 02 01 22 00 22 01 22 00 22 01 22 01 00'
+compile 'ababb to abbbb' 256 "$ababb" "states 6, bytes 87, $agree"
+compile 'ababb to abbbb, ceiling 6' 6 "$ababb" "states 6, bytes 87, $agree"
+compile 'ababb to abbbb, ceiling 5' 5 "$ababb" 'refused 10 at rule 1'
+compile 'no rules, K 2, ceiling 1' 1 '20 02 00' "states 1, bytes 17, $agree"
+compile 'no rules, K 48, ceiling 172' 172 '20 30 00' "states 1, bytes 247, $agree"
+compile 'no rules, K 48, ceiling 173' 173 '20 30 00' 'refused 9'
+compile 'book A, ceiling 0' 0 "$book_a" 'refused 8'
+compile 'book A, ceiling 257' 257 "$book_a" 'refused 8'
+compile 'no book, ceiling 0' 0 '' 'refused 8'
+compile 'no book, ceiling 257' 257 '' 'refused 8'
+compile 'no book' 256 '' 'refused 1'
+# Rules and patterns
+rules="20 02$(times 8 ' 21 00 01 22 00 21 00 00 22 01')"
+compile '16 rules' 256 "$rules 00" "states 3, bytes 41, $agree"
+compile '17 rules' 256 "$rules 21 00 01 22 00 00" 'refused 7'
+pattern='20 02 21 03 01 22 00 22 00 22 01 22 00 22 00 22 01'
+compile 'a pattern of 6' 256 "$pattern 00" "states 7, bytes 101, $agree"
+compile 'a pattern of 7' 256 "$pattern 22 00 00" 'refused 3'
+
+# slices NAME CEILING ENTRIES ROOM RESULT: book A needs 1,872 entries at ceiling 3, 1,248 at ceiling 2, and its table has 43 bytes.
+slices() { call "book A, $1" "slices $2 $3 $4 $book_a" "$5 other than before"; }
+
+slices 'exactly what is needed' 3 1872 43 'states 3, bytes 43; 1872 entries and 43 bytes'
+slices 'more than is needed' 3 4096 64 'states 3, bytes 43; 1872 entries and 43 bytes'
+slices 'one entry short' 3 1871 43 'refused 9; 0 entries and 0 bytes'
+slices 'one byte short' 3 1872 42 'refused 11; 1872 entries and 0 bytes'
+slices 'no bytes' 3 1872 0 'refused 11; 1872 entries and 0 bytes'
+slices 'one entry and one byte short' 3 1871 42 'refused 9; 0 entries and 0 bytes'
+slices 'too low a ceiling' 2 1248 43 'refused 10 at rule 1; 1248 entries and 0 bytes'
+slices 'too low a ceiling and no bytes' 2 4096 0 'refused 10 at rule 1; 1248 entries and 0 bytes'
+slices 'too low a ceiling and one entry short' 2 1247 43 'refused 9; 0 entries and 0 bytes'
+
+# book NAME STATES BYTES BOOK: at the greatest ceiling the table has so many states and bytes, and does what the book does.
+book() { compile "book $1" 256 "$4" "states $2, bytes $3, $agree"; }
+
+# Document 01's three books, and forty more
+book A 3 43 "$book_a"
+book B 3 41 '20 02 21 00 01 22 00 21 00 00 22 01 00'
+book C 8 233 '20 05 21 01 02 22 00 22 01 21 00 01 22 02 22 03 00'
+book 1 7 89 '20 02 21 04 01 22 00 22 00 22 00 22 01 22 00 21 00 01 22 00 00'
+book 2 5 67 '20 02 21 00 00 22 01 22 00 21 00 00 22 01 00'
+book 3 23 313 '20 02 21 00 00 22 01 22 01 21 01 01 22 00 22 00 22 00 21 01 01 22 00 22 00 00'
+book 4 10 295 '20 05 21 01 01 22 04 22 03 22 02 21 01 04 22 01 22 00 00'
+book 5 184 3223 "20 02 21 01 01 22 01 22 00 22 00 22 01 22 00 22 01 21 04 00 22 00 22 00 22 01 22 01 22 01 \
+21 05 01 22 00 22 00 22 01 22 01 22 00 22 00 21 01 00 22 01 22 01 22 01 22 00 22 01 22 01 00"
+book 6 4 87 '20 03 21 00 02 22 01 22 00 22 02 00'
+book 7 28 593 '20 03 21 01 02 22 00 22 01 21 01 01 22 01 22 02 21 00 00 22 02 22 01 22 00 22 00 00'
+book 8 5 69 '20 02 21 01 00 22 00 22 01 22 00 21 00 01 22 00 00'
+book 9 42 873 '20 03 21 00 02 22 00 22 02 22 02 22 02 21 03 01 22 01 22 01 22 01 22 00 22 01 21 00 01 22 00 22 00 22 01 00'
+book 10 7 123 '20 02 21 00 01 22 00 21 00 00 22 01 22 00 21 00 01 22 00 22 01 22 01 22 01 22 01 00'
+book 11 17 572 '20 05 21 00 01 22 03 22 03 22 02 21 00 04 22 02 21 00 02 22 04 22 00 00'
+book 12 36 477 '20 02 21 00 00 22 01 21 01 00 22 00 22 01 22 00 22 01 21 02 01 22 01 22 00 22 00 21 02 00 22 00 22 00 22 01 22 01 00'
+book 13 20 465 '20 04 21 01 00 22 03 22 02 21 01 00 22 00 22 01 21 00 02 22 01 22 03 00'
+book 14 6 137 '20 04 21 00 03 22 00 21 01 03 22 03 22 01 00'
+book 15 6 99 '20 02 21 01 00 22 01 22 01 22 00 22 00 22 00 00'
+book 16 36 671 '20 02 21 00 01 22 00 22 01 22 01 22 00 22 00 22 00 21 00 00 22 01 22 00 21 02 01 22 00 22 01 22 00 00'
+book 17 16 203 '20 02 21 04 00 22 00 22 00 22 01 22 01 22 01 21 00 01 22 00 22 01 21 01 01 22 00 22 00 00'
+book 18 5 90 '20 03 21 03 00 22 02 22 02 22 02 22 02 00'
+book 19 4 89 '20 03 21 00 02 22 00 22 01 22 00 00'
+book 20 3 62 '20 03 21 00 02 22 01 22 01 00'
+book 21 44 1075 '20 03 21 01 02 22 02 22 00 22 02 22 02 22 01 22 02 21 01 02 22 01 22 00 21 00 01 22 00 22 02 22 00 22 01 00'
+book 22 4 99 '20 04 21 00 00 22 01 21 00 03 22 01 22 03 00'
+book 23 57 921 "20 02 21 03 00 22 00 22 00 22 00 22 01 22 01 22 01 21 02 00 22 01 22 00 22 01 22 00 \
+21 01 00 22 00 22 01 22 01 22 01 22 00 22 00 00"
+book 24 11 165 '20 02 21 00 01 22 00 22 00 22 01 21 02 00 22 01 22 00 22 01 00'
+book 25 5 73 '20 02 21 00 01 22 00 21 00 01 22 00 22 00 22 01 00'
+book 26 10 149 '20 02 21 01 01 22 01 22 00 21 00 01 22 00 22 00 22 00 00'
+book 27 3 41 '20 02 21 01 00 22 00 22 01 00'
+book 28 11 145 '20 02 21 00 00 22 01 22 01 21 00 01 22 00 21 04 00 22 00 22 01 22 00 22 01 22 01 22 01 00'
+book 29 9 237 '20 04 21 00 01 22 02 22 01 21 00 01 22 00 22 01 00'
+book 30 56 1587 '20 04 21 00 00 22 03 22 01 21 00 01 22 02 22 01 22 02 21 01 00 22 01 22 02 21 01 00 22 02 22 02 00'
+book 31 6 91 '20 02 21 01 01 22 01 22 00 22 00 21 00 00 22 01 22 01 00'
+book 32 3 60 '20 03 21 00 02 22 01 22 00 00'
+book 33 6 161 '20 03 21 00 01 22 00 22 01 22 01 22 02 22 00 00'
+book 34 27 665 '20 04 21 01 02 22 02 22 03 22 01 21 00 03 22 00 22 03 21 00 00 22 01 21 00 00 22 01 00'
+book 35 20 357 '20 03 21 00 00 22 02 21 04 00 22 01 22 00 22 01 22 00 22 02 22 02 21 01 01 22 02 22 02 00'
+book 36 3 96 '20 05 21 00 04 22 01 22 01 00'
+book 37 28 553 '20 03 21 01 00 22 01 22 02 21 01 01 22 00 22 02 22 00 21 00 01 22 02 22 02 22 00 00'
+book 38 23 335 '20 02 21 01 01 22 00 22 00 22 01 21 03 01 22 01 22 01 22 00 22 00 22 01 22 00 21 01 01 22 01 22 00 22 01 00'
+book 39 7 89 '20 02 21 01 01 22 00 22 00 21 01 01 22 01 22 00 00'
+book 40 42 787 '20 03 21 03 02 22 00 22 00 22 00 22 01 22 02 21 01 02 22 02 22 00 22 01 21 02 02 22 00 22 01 22 00 22 01 00'
