@@ -1,32 +1,57 @@
-/* Times the library beside plain C and prints their ratios. Books come as lines on standard input: bytes in hexadecimal, a ceiling and a
-   name. Both do the same work in turns; the best of several rounds counts. */
-#define _POSIX_C_SOURCE 200809L
+/* Times the library beside plain C and prints their ratios, then what the library takes. Books come as lines on standard input: bytes in
+   hexadecimal, a ceiling and a name. Library and plain C do the same work in turns; the best of several rounds counts. */
+#define _DEFAULT_SOURCE
 #include <nedzsuka.h>
 
 #include <inttypes.h>
 #include <stdio.h>
 #include <stdlib.h>
 #include <string.h>
+#include <sys/mman.h>
 #include <time.h>
 
 #include "plain.h"
+#include "sentences.h"
 
-enum workload { COMPILE, BOOK_SHORT, BOOK_LONG, TABLE_SHORT, TABLE_LONG, WORKLOADS };
-enum { LIBRARY, PLAIN, BOTH, SHORT = 20, LONG = 65535, ROUNDS = 31, MOST_BOOKS = 64, NAME = 48 };
+enum { LIBRARY, PLAIN, BOTH };
+enum call { COMPILE, RUN_BOOK, RUN_TABLE, LOAD, RUN_LOADED };
+enum { ROUNDS = 31, FRESH_ROUNDS = 5, MOST_TIMES = 100000, MOST_BOOKS = 64, NAME = 48 };
+
+struct workload {
+    const char *heading;
+    enum call call;
+    enum kind kind;
+    enum length length;
+};
+
+/* What is timed beside plain C, on random sentences. */
+static const struct workload beside[] = {
+    {"compile", COMPILE, RANDOM, OF_20},
+    {"book 20", RUN_BOOK, RANDOM, OF_20},
+    {"book 65,535", RUN_BOOK, RANDOM, OF_65535},
+    {"table 20", RUN_TABLE, RANDOM, OF_20},
+    {"table 65,535", RUN_TABLE, RANDOM, OF_65535},
+    {"load", LOAD, RANDOM, OF_20},
+    {"loaded 20", RUN_LOADED, RANDOM, OF_20},
+    {"loaded 65,535", RUN_LOADED, RANDOM, OF_65535},
+};
+/* What is timed of the library alone: each of these with each length, with sentences in which rules fire and in which none does. */
+static const enum call runs[] = {RUN_BOOK, RUN_TABLE, RUN_LOADED};
+enum { BESIDE = sizeof beside / sizeof *beside, RUNS = sizeof runs / sizeof *runs };
 
 struct figures {
     char name[NAME];
     int states;
-    double seconds[WORKLOADS][BOTH];
+    double beside[BESIDE][BOTH], alone[KINDS][LENGTHS][RUNS];
+    double fresh, again; /* a compile whose work slice is fresh memory, and the next one */
 };
 
-static const char *const heading[WORKLOADS] = {"compile", "book 20", "book 65,535", "table 20", "table 65,535"};
-
-static uint8_t book[NEDZSUKA_LONGEST_BOOK], table[NEDZSUKA_LONGEST_TABLE], sentence[LONG];
-static uint8_t out[BOTH][NEDZSUKA_LONGEST_TABLE];
+static uint8_t book[NEDZSUKA_LONGEST_BOOK], table[NEDZSUKA_LONGEST_TABLE], out[BOTH][NEDZSUKA_LONGEST_TABLE];
+static uint32_t loaded[NEDZSUKA_LONGEST_TABLE], loaded_out[BOTH][NEDZSUKA_LONGEST_TABLE];
 static uint16_t *work;
-static size_t book_len, table_len;
+static size_t book_len, table_len, loaded_len;
 static uint64_t ceiling;
+static struct sentences sentences;
 
 static double now(void)
 {
@@ -36,38 +61,58 @@ static double now(void)
     return (double)t.tv_sec + (double)t.tv_nsec * 1e-9;
 }
 
-static uint64_t call(int which, enum workload load)
+static uint64_t call(int which, const struct workload *load)
 {
-    size_t tags = load == BOOK_SHORT || load == TABLE_SHORT ? SHORT : LONG;
+    const uint8_t *sentence = sentences.tags[load->kind][load->length];
+    size_t tags = sentence_length[load->length];
 
-    if (load == COMPILE)
+    switch (load->call) {
+    case COMPILE:
         return (which == LIBRARY ? nedzsuka_compile : plain_compile)(book, book_len, ceiling, work, NEDZSUKA_MOST_WORK, out[which],
                                                                      sizeof out[which]);
-    if (load == BOOK_SHORT || load == BOOK_LONG)
+    case RUN_BOOK:
         return (which == LIBRARY ? nedzsuka_run_book : plain_run_book)(book, book_len, sentence, tags, out[which], tags);
-    return (which == LIBRARY ? nedzsuka_run_table : plain_run_table)(table, table_len, sentence, tags, out[which], tags);
+    case RUN_TABLE:
+        return (which == LIBRARY ? nedzsuka_run_table : plain_run_table)(table, table_len, sentence, tags, out[which], tags);
+    case LOAD:
+        return (which == LIBRARY ? nedzsuka_load_table : plain_load_table)(table, table_len, loaded_out[which], table_len);
+    default:
+        return (which == LIBRARY ? nedzsuka_run_loaded : plain_run_loaded)(loaded, loaded_len, sentence, tags, out[which], tags);
+    }
 }
 
-static void agree(const char *name, enum workload load)
+/* Library and plain C do the same, and tags change where they should. */
+static void agree(const char *name, const struct workload *load)
 {
+    uint64_t answer;
+
     memset(out, 0, sizeof out);
-    if (call(LIBRARY, load) == call(PLAIN, load) && memcmp(out[LIBRARY], out[PLAIN], sizeof out[PLAIN]) == 0)
-        return;
-    fprintf(stderr, "bench: %s, %s: the library and plain C differ\n", name, heading[load]);
-    exit(1);
+    memset(loaded_out, 0, sizeof loaded_out);
+    answer = call(LIBRARY, load);
+    if (answer != call(PLAIN, load) || memcmp(out[LIBRARY], out[PLAIN], sizeof out[PLAIN]) != 0 ||
+        memcmp(loaded_out[LIBRARY], loaded_out[PLAIN], sizeof loaded_out[PLAIN]) != 0) {
+        fprintf(stderr, "bench: %s, %s: the library and plain C differ\n", name, load->heading);
+        exit(1);
+    }
+    if (load->kind != RANDOM && (nedzsuka_value(answer) > 0) != (load->kind == FIRING)) {
+        fprintf(stderr, "bench: %s, %s: not the changes that the sentence is for\n", name, load->heading);
+        exit(1);
+    }
 }
 
-static void measure(enum workload load, double *seconds)
+/* The library, and plain C in turns with it where seconds are for both. */
+static void measure(const struct workload *load, double *seconds, int both)
 {
     double start = now();
     long times;
 
     call(LIBRARY, load);
     times = (long)(0.01 / (now() - start + 1e-9));
-    times = times < 1 ? 1 : times > 20000 ? 20000 : times;
-    seconds[LIBRARY] = seconds[PLAIN] = 1e9;
+    times = times < 1 ? 1 : times > MOST_TIMES ? MOST_TIMES : times;
+    for (int which = LIBRARY; which < both; which++)
+        seconds[which] = 1e9;
     for (int round = 0; round < ROUNDS; round++)
-        for (int which = LIBRARY; which < BOTH; which++) {
+        for (int which = LIBRARY; which < both; which++) {
             start = now();
             for (long i = 0; i < times; i++)
                 call(which, load);
@@ -76,24 +121,67 @@ static void measure(enum workload load, double *seconds)
         }
 }
 
+static int needs_table(const struct workload *load)
+{
+    return load->call == RUN_TABLE || load->call == LOAD || load->call == RUN_LOADED;
+}
+
+static void measure_alone(struct figures *f, enum kind kind)
+{
+    for (int length = 0; length < LENGTHS; length++)
+        for (int i = 0; i < RUNS; i++) {
+            struct workload load = {kind == FIRING ? "rules fire" : "no rule fires", runs[i], kind, (enum length)length};
+            f->alone[kind][length][i] = 0;
+            if ((f->states == 0 && needs_table(&load)) || !sentences.made[kind])
+                continue;
+            agree(f->name, &load);
+            measure(&load, &f->alone[kind][length][i], PLAIN);
+        }
+}
+
+/* With a work slice that is as long as needed and was never touched, and again with the same. */
+static void measure_fresh(struct figures *f)
+{
+    uint64_t size = nedzsuka_value(nedzsuka_read_book(book, book_len));
+    size_t entries = nedzsuka_work_entries(ceiling, size / 256, size % 256);
+    double start, seconds[2];
+
+    f->fresh = f->again = 1e9;
+    for (int round = 0; round < FRESH_ROUNDS; round++) {
+        uint16_t *fresh = mmap(NULL, entries * sizeof *fresh, PROT_READ | PROT_WRITE, MAP_PRIVATE | MAP_ANONYMOUS, -1, 0);
+        if (fresh == MAP_FAILED) {
+            perror("work slice");
+            exit(2);
+        }
+        for (int i = 0; i < 2; i++) {
+            start = now();
+            nedzsuka_compile(book, book_len, ceiling, fresh, entries, out[LIBRARY], sizeof out[LIBRARY]);
+            seconds[i] = now() - start;
+        }
+        f->fresh = seconds[0] < f->fresh ? seconds[0] : f->fresh;
+        f->again = seconds[1] < f->again ? seconds[1] : f->again;
+        munmap(fresh, entries * sizeof *fresh);
+    }
+}
+
 static void bench(struct figures *f)
 {
     uint64_t answer = plain_compile(book, book_len, ceiling, work, NEDZSUKA_MOST_WORK, table, sizeof table);
-    uint32_t z = 12345;
 
     f->states = nedzsuka_refusal(answer) == NEDZSUKA_OK ? table[2] * 256 + table[3] : 0;
     table_len = (size_t)nedzsuka_value(answer);
-    for (size_t i = 0; i < sizeof sentence; i++) {
-        z = z * 1664525 + 1013904223;
-        sentence[i] = (uint8_t)((z >> 16) % book[1]);
-    }
-    for (int load = 0; load < WORKLOADS; load++) {
-        f->seconds[load][LIBRARY] = f->seconds[load][PLAIN] = 0;
-        if (f->states == 0 && load >= TABLE_SHORT)
+    loaded_len = (size_t)nedzsuka_value(plain_load_table(table, f->states == 0 ? 0 : table_len, loaded, table_len));
+    make_sentences(book, &sentences);
+    for (int i = 0; i < BESIDE; i++) {
+        f->beside[i][LIBRARY] = f->beside[i][PLAIN] = 0;
+        if (f->states == 0 && needs_table(&beside[i]))
             continue;
-        agree(f->name, (enum workload)load);
-        measure((enum workload)load, f->seconds[load]);
+        agree(f->name, &beside[i]);
+        measure(&beside[i], f->beside[i], BOTH);
     }
+    measure_alone(f, FIRING);
+    measure_alone(f, QUIET);
+    measure_fresh(f);
 }
 
 static int read_line(struct figures *f)
@@ -118,22 +206,57 @@ static int read_line(struct figures *f)
 static void print_heading(const char *title)
 {
     printf("%-42s %6s", title, "states");
-    for (int load = 0; load < WORKLOADS; load++)
-        printf(" %12s", heading[load]);
+    for (int i = 0; i < BESIDE; i++)
+        printf(" %13s", beside[i].heading);
     printf("\n");
 }
 
-static void print_row(const struct figures *f, int ratios)
+static void print_figure(double figure, int decimals)
 {
-    printf("%-42s %6d", f->name, f->states);
-    for (int load = 0; load < WORKLOADS; load++) {
-        const double *seconds = f->seconds[load];
-        if (seconds[PLAIN] == 0)
-            printf(" %12s", "-");
-        else
-            printf(" %12.2f", ratios ? seconds[LIBRARY] / seconds[PLAIN] : seconds[LIBRARY] * 1e6);
+    if (figure == 0)
+        printf(" %13s", "-");
+    else
+        printf(" %13.*f", decimals, figure);
+}
+
+static void print_beside(const struct figures *figures, int books)
+{
+    print_heading("time of the library / time of plain C");
+    for (int b = 0; b < books; b++) {
+        printf("%-42s %6d", figures[b].name, figures[b].states);
+        for (int i = 0; i < BESIDE; i++)
+            print_figure(figures[b].beside[i][PLAIN] == 0 ? 0 : figures[b].beside[i][LIBRARY] / figures[b].beside[i][PLAIN], 2);
+        printf("\n");
     }
     printf("\n");
+    print_heading("time of the library in microseconds");
+    for (int b = 0; b < books; b++) {
+        printf("%-42s %6d", figures[b].name, figures[b].states);
+        for (int i = 0; i < BESIDE; i++)
+            print_figure(figures[b].beside[i][LIBRARY] * 1e6, 2);
+        printf("\n");
+    }
+}
+
+static void print_alone(const struct figures *figures, int books)
+{
+    printf("\n%-42s %6s %41s %41s\n", "nanoseconds for a sentence", "tags", "rules fire: book, table, loaded",
+           "none does: book, table, loaded");
+    for (int b = 0; b < books; b++)
+        for (int length = 0; length < LENGTHS; length++) {
+            printf("%-42s %6zu", figures[b].name, sentence_length[length]);
+            for (int kind = FIRING; kind <= QUIET; kind++)
+                for (int i = 0; i < RUNS; i++)
+                    print_figure(figures[b].alone[kind][length][i] * 1e9, 0);
+            printf("\n");
+        }
+}
+
+static void print_fresh(const struct figures *figures, int books)
+{
+    printf("\n%-42s %6s %13s %13s\n", "compile in microseconds, work slice", "states", "fresh", "used before");
+    for (int b = 0; b < books; b++)
+        printf("%-42s %6d %13.2f %13.2f\n", figures[b].name, figures[b].states, figures[b].fresh * 1e6, figures[b].again * 1e6);
 }
 
 int main(void)
@@ -148,13 +271,9 @@ int main(void)
     }
     while (books < MOST_BOOKS && read_line(&figures[books]))
         bench(&figures[books++]);
-    print_heading("time of the library / time of plain C");
-    for (int i = 0; i < books; i++)
-        print_row(&figures[i], 1);
-    printf("\n");
-    print_heading("time of the library in microseconds");
-    for (int i = 0; i < books; i++)
-        print_row(&figures[i], 0);
+    print_beside(figures, books);
+    print_alone(figures, books);
+    print_fresh(figures, books);
     free(work);
     return 0;
 }

@@ -214,6 +214,204 @@ uint64_t plain_run_table(const uint8_t *t, size_t table_len, const uint8_t *s, s
     return differences(s, out, n) * 256;
 }
 
+/* ---- Loaded tables ---- */
+
+#define RESTING 0xffffffffu
+
+/* Buffers have room for a word of three tags stored as four bytes past the longest sentence that they are for. */
+enum { SPARE = 4, SMALL = 256, MIDDLE = 2048, LARGE = 65535, BLOCK = 192 };
+
+static int rests(const uint8_t *t, int q, const struct places *p)
+{
+    if (p->held[q] != 0)
+        return 0;
+    for (int a = 0; a < t[1]; a++) {
+        struct place step = p->step[q * 48 + a];
+        if (step.next != q || step.count != 1 || t[step.out + 1] != a)
+            return 0;
+    }
+    return 1;
+}
+
+static size_t numbers_of(int tags, int states, const struct places *p)
+{
+    size_t n = 1 + (size_t)states * (size_t)(2 * tags + 2);
+
+    for (int q = 0; q < states; q++) {
+        n += p->held[q] > 3 ? p->held[q] : 0;
+        for (int a = 0; a < tags; a++)
+            n += p->step[q * 48 + a].count > 3 ? p->step[q * 48 + a].count : 0;
+    }
+    return n;
+}
+
+/* The number of the word whose tags stand at every other byte of w; a long one goes to the end of the numbers. */
+static inline uint32_t word_number(const uint8_t *w, uint32_t count, uint32_t *loaded, size_t *end)
+{
+    uint32_t number = count;
+
+    if (count > 3) {
+        number |= (uint32_t)*end << 8;
+        for (uint32_t j = 0; j < count; j++)
+            loaded[(*end)++] = w[2 * j + 1];
+    } else {
+        for (uint32_t j = 0; j < count; j++)
+            number |= (uint32_t)w[2 * j + 1] << (8 * j + 8);
+    }
+    return number;
+}
+
+uint64_t plain_load_table(const uint8_t *t, size_t table_len, uint32_t *loaded, size_t loaded_len)
+{
+    struct places p;
+    uint32_t place[256], *l = loaded;
+    size_t needed, end;
+    int tags, states;
+
+    if (read_table(t, table_len, &p))
+        return 12;
+    tags = t[1];
+    states = t[2] * 256 + t[3];
+    needed = numbers_of(tags, states, &p);
+    if (loaded_len < needed)
+        return 11;
+    for (int q = 0; q < states; q++)
+        place[q] = 1 + (uint32_t)q * (uint32_t)(2 * tags + 2);
+    for (int q = 0; q < states; q++)
+        if (rests(t, q, &p)) {
+            place[q] = RESTING;
+            break;
+        }
+    end = 1 + (size_t)states * (size_t)(2 * tags + 2);
+    *l++ = (uint32_t)tags;
+    for (int q = 0; q < states; q++) {
+        *l++ = word_number(t + p.final[q], p.held[q], loaded, &end);
+        *l++ = 0;
+        for (int a = 0; a < tags; a++) {
+            struct place step = p.step[q * 48 + a];
+            *l++ = place[step.next];
+            *l++ = word_number(t + step.out, step.count, loaded, &end);
+        }
+    }
+    return (uint64_t)needed * 256;
+}
+
+/* A frame of its own: short sentences don't pay for a large buffer, nor the loop for long words. */
+#if defined(__GNUC__)
+#define OWN_FRAME __attribute__((noinline))
+#else
+#define OWN_FRAME
+#endif
+
+static OWN_FRAME size_t put_long_word(const uint32_t *l, size_t len, uint32_t e, uint8_t *buffer, size_t o, size_t n)
+{
+    size_t count = e & 255, place = e >> 8;
+
+    if (place + count > len || o + count > n)
+        return n + 1;
+    for (size_t j = 0; j < count; j++)
+        buffer[o + j] = (uint8_t)l[place + j];
+    return o + count;
+}
+
+/* Puts a word after the o tags in the buffer; how many there are then, or more than n where it doesn't fit or lies outside. */
+static inline size_t put_word(const uint32_t *l, size_t len, uint32_t e, uint8_t *buffer, size_t o, size_t n)
+{
+    uint32_t above = e >> 8;
+
+    if ((e & 255) > 3)
+        return put_long_word(l, len, e, buffer, o, n);
+    memcpy(buffer + o, &above, sizeof above);
+    return o + (e & 255);
+}
+
+/* Whether the way puts out n tags into the buffer, which has n + SPARE bytes. A tag's column is found apart from the row, so that from
+   one row to the next there is one load. */
+static inline int walk(const uint32_t *l, size_t len, const uint8_t *s, size_t n, uint8_t *buffer)
+{
+    size_t row = 2 * (size_t)l[0] + 1, x = 1, o = 0;
+
+    for (size_t i = 0; i < n; i++) {
+        const uint32_t *column = l + 2 + 2 * (size_t)s[i];
+        uint32_t e;
+        if (x + row >= len)
+            return 0;
+        e = column[x + 1];
+        x = column[x];
+        o = put_word(l, len, e, buffer, o, n);
+        if (o > n)
+            return 0;
+        if (x == RESTING) {
+            if (n - i - 1 != n - o)
+                return 0;
+            memcpy(buffer + o, s + i + 1, n - o);
+            return 1;
+        }
+    }
+    return x + row < len && put_word(l, len, l[x], buffer, o, n) == n;
+}
+
+/* As differences, in sums of bytes, of which the compiler adds sixteen at once. */
+static inline uint64_t changed_places(const uint8_t *a, const uint8_t *b, size_t n)
+{
+    uint64_t count = 0;
+    size_t i = 0;
+
+    for (; i + BLOCK <= n; i += BLOCK) {
+        uint8_t sum = 0;
+        for (size_t j = 0; j < BLOCK; j++)
+            sum = (uint8_t)(sum + (a[i + j] != b[i + j]));
+        count += sum;
+    }
+    for (; i < n; i++)
+        count += a[i] != b[i];
+    return count;
+}
+
+static inline uint64_t walk_and_copy(const uint32_t *l, size_t len, const uint8_t *s, size_t n, uint8_t *buffer, uint8_t *out)
+{
+    if (!walk(l, len, s, n, buffer) || bad_sentence(buffer, n, (int)l[0]))
+        return 12;
+    if (n > 0)
+        memcpy(out, buffer, n);
+    return changed_places(s, buffer, n) * 256;
+}
+
+static OWN_FRAME uint64_t run_small(const uint32_t *l, size_t len, const uint8_t *s, size_t n, uint8_t *out)
+{
+    uint8_t buffer[SMALL + SPARE];
+
+    return walk_and_copy(l, len, s, n, buffer, out);
+}
+
+static OWN_FRAME uint64_t run_middle(const uint32_t *l, size_t len, const uint8_t *s, size_t n, uint8_t *out)
+{
+    uint8_t buffer[MIDDLE + SPARE];
+
+    return walk_and_copy(l, len, s, n, buffer, out);
+}
+
+static OWN_FRAME uint64_t run_large(const uint32_t *l, size_t len, const uint8_t *s, size_t n, uint8_t *out)
+{
+    uint8_t buffer[LARGE + SPARE];
+
+    return walk_and_copy(l, len, s, n, buffer, out);
+}
+
+uint64_t plain_run_loaded(const uint32_t *l, size_t loaded_len, const uint8_t *s, size_t n, uint8_t *out, size_t out_len)
+{
+    int refusal;
+
+    if (loaded_len == 0 || l[0] < 2 || l[0] > 48)
+        return 12;
+    refusal = bad_sentence(s, n, (int)l[0]);
+    if (!refusal && out_len < n)
+        refusal = 11;
+    if (refusal)
+        return (uint64_t)refusal;
+    return (n <= SMALL ? run_small : n <= MIDDLE ? run_middle : run_large)(l, loaded_len, s, n, out);
+}
+
 /* ---- Machines ---- */
 
 enum { LONGEST_WORD = 84 };

@@ -1,4 +1,4 @@
-/* The three calls as one would write them by hand in C, unproved: the speed to compare with. */
+/* The calls as one would write them by hand in C, unproved: the speed to compare with. */
 #ifndef PLAIN_H
 #define PLAIN_H
 
@@ -11,5 +11,8 @@ uint64_t plain_run_book(const uint8_t *book, size_t book_len, const uint8_t *sen
                         size_t out_len);
 uint64_t plain_run_table(const uint8_t *table, size_t table_len, const uint8_t *sentence, size_t sentence_len, uint8_t *out,
                          size_t out_len);
+uint64_t plain_load_table(const uint8_t *table, size_t table_len, uint32_t *loaded, size_t loaded_len);
+uint64_t plain_run_loaded(const uint32_t *loaded, size_t loaded_len, const uint8_t *sentence, size_t sentence_len, uint8_t *out,
+                          size_t out_len);
 
 #endif

@@ -4,9 +4,14 @@
    run_book ROOM BOOK / SENTENCE        the same
    compile CEILING ENTRIES ROOM BOOK    the table's states and bytes and on how many sentences it does what the book does, or the refusal
    slices CEILING ENTRIES ROOM BOOK     states and bytes or the refusal, then how much of the slices' memory has changed
+   read_book BOOK                       the tags and rules, or the refusal and its byte
+   read_table TABLE                     the tags and states, or the refusal
+   load_table ROOM TABLE                how many numbers were written or the refusal, then the loaded slice
+   run_loaded ROOM NUMBERS / SENTENCE   the number of changed tags or the refusal, then the output slice
 
-   ROOM is the length of the output slice, ENTRIES that of the work slice; bytes are pairs of hexadecimal digits. Both slices are the
-   front of longer memory, which holds sevens before each call. A line that can't be read ends the program with status 2. */
+   ROOM is the length of the output slice, ENTRIES that of the work slice; bytes are pairs of hexadecimal digits, numbers decimal. Output
+   and work slices are the front of longer memory, which holds sevens before each call. A line that can't be read ends the program with
+   status 2. */
 #include <nedzsuka.h>
 
 #include <inttypes.h>
@@ -15,12 +20,13 @@
 #include <string.h>
 
 /* The entries are enough for sixteen rules over two tags at every ceiling, and for no rules over 48 tags at ceilings up to 172. */
-enum { MOST_ENTRIES = 1081344, MOST_BYTES = 65536, LONGEST_LINE = 1 << 18, DRAWN = 400, LENGTHS = 41 };
+enum { MOST_ENTRIES = 1081344, MOST_BYTES = 65536, MOST_NUMBERS = 4096, LONGEST_LINE = 1 << 18, DRAWN = 400, LENGTHS = 41 };
 
 static char line[LONGEST_LINE];
 static size_t lines;
 static uint8_t first[MOST_BYTES], sentence[MOST_BYTES], out[MOST_BYTES]; /* first: the book or table */
 static uint16_t work[MOST_ENTRIES];
+static uint32_t loaded[MOST_NUMBERS];
 
 static void unreadable(const char *why)
 {
@@ -28,14 +34,34 @@ static void unreadable(const char *why)
     exit(2);
 }
 
-static uint32_t read_number(uint32_t most)
+static uint32_t number_of(const char *word, uint32_t most)
 {
-    const char *word = strtok(NULL, " \n");
     unsigned long long number = word == NULL ? 0 : strtoull(word, NULL, 10);
 
     if (word == NULL || word[strspn(word, "0123456789")] != '\0' || number > most)
         unreadable("a number is missing, wrong or too large");
     return (uint32_t)number;
+}
+
+static uint32_t read_number(uint32_t most)
+{
+    return number_of(strtok(NULL, " \n"), most);
+}
+
+/* Reads numbers up to a slash and answers how many they are. */
+static size_t read_numbers(uint32_t *numbers)
+{
+    const char *word = strtok(NULL, " \n");
+    size_t length = 0;
+
+    for (; word != NULL && strcmp(word, "/") != 0; word = strtok(NULL, " \n")) {
+        if (length == MOST_NUMBERS)
+            unreadable("a number is one too many");
+        numbers[length++] = number_of(word, UINT32_MAX);
+    }
+    if (word == NULL)
+        unreadable("a slash is missing");
+    return length;
 }
 
 /* Reads bytes up to the end of the line, or up to a slash where there has to be one, and answers how many they are. */
@@ -54,27 +80,66 @@ static size_t read_bytes(uint8_t *bytes, int slash)
     return length;
 }
 
-/* Whether the answer is a refusal, which is printed. */
-static int refused(uint64_t answer)
+/* Whether the answer is a refusal, which is printed with the rule or byte that it names. */
+static int refused(uint64_t answer, const char *named)
 {
     if (nedzsuka_refusal(answer) == NEDZSUKA_OK)
         return 0;
     printf("refused %u", nedzsuka_refusal(answer));
     if (nedzsuka_value(answer) != 0)
-        printf(" at rule %" PRIu64, nedzsuka_value(answer));
+        printf(" at %s %" PRIu64, named, nedzsuka_value(answer));
     return 1;
+}
+
+static void read_book(void)
+{
+    uint64_t answer = nedzsuka_read_book(first, read_bytes(first, 0));
+
+    if (!refused(answer, "byte"))
+        printf("tags %" PRIu64 ", rules %" PRIu64, nedzsuka_value(answer) / 256, nedzsuka_value(answer) % 256);
+}
+
+static void read_table(void)
+{
+    uint64_t answer = nedzsuka_read_table(first, read_bytes(first, 0));
+
+    if (!refused(answer, "nothing"))
+        printf("tags %" PRIu64 ", states %" PRIu64, nedzsuka_value(answer) / 65536, nedzsuka_value(answer) % 65536);
+}
+
+static void load_table(void)
+{
+    size_t room = read_number(MOST_NUMBERS), table_len = read_bytes(first, 0);
+    uint64_t answer = nedzsuka_load_table(first, table_len, loaded, room);
+
+    if (!refused(answer, "nothing"))
+        printf("%" PRIu64 " numbers", nedzsuka_value(answer));
+    printf(", loaded");
+    for (size_t i = 0; i < room; i++)
+        printf(" %" PRIu32, loaded[i]);
+}
+
+static void print_run(uint64_t answer, size_t room)
+{
+    if (!refused(answer, "nothing"))
+        printf("%" PRIu64 " changed", nedzsuka_value(answer));
+    printf(", output");
+    for (size_t i = 0; i < room; i++)
+        printf(" %d", out[i]);
 }
 
 static void run(int table)
 {
     size_t room = read_number(MOST_BYTES), first_len = read_bytes(first, 1), length = read_bytes(sentence, 0);
-    uint64_t answer = (table ? nedzsuka_run_table : nedzsuka_run_book)(first, first_len, sentence, length, out, room);
 
-    if (!refused(answer))
-        printf("%" PRIu64 " changed", nedzsuka_value(answer));
-    printf(", output");
-    for (size_t i = 0; i < room; i++)
-        printf(" %d", out[i]);
+    print_run((table ? nedzsuka_run_table : nedzsuka_run_book)(first, first_len, sentence, length, out, room), room);
+}
+
+static void run_loaded(void)
+{
+    size_t room = read_number(MOST_BYTES), count = read_numbers(loaded), length = read_bytes(sentence, 0);
+
+    print_run(nedzsuka_run_loaded(loaded, count, sentence, length, out, room), room);
 }
 
 /* On how many drawn sentences neither the book nor its table refuses, and both answer the same and leave the same in the output slice. The
@@ -116,7 +181,7 @@ static void compile(int slices)
     size_t book_len = read_bytes(first, 0);
     uint64_t answer = nedzsuka_compile(first, book_len, ceiling, work, entries, out, room);
 
-    if (!refused(answer))
+    if (!refused(answer, "rule"))
         printf("states %d, bytes %" PRIu64, out[2] * 256 + out[3], nedzsuka_value(answer));
     if (slices)
         print_changed();
@@ -126,13 +191,24 @@ static void compile(int slices)
 
 static void answer_line(const char *word)
 {
+    word = word == NULL ? "" : word;
     memset(out, 7, sizeof out);
     for (size_t i = 0; i < MOST_ENTRIES; i++)
         work[i] = 7;
-    if (word != NULL && (strcmp(word, "run_table") == 0 || strcmp(word, "run_book") == 0))
+    for (size_t i = 0; i < MOST_NUMBERS; i++)
+        loaded[i] = 7;
+    if (strcmp(word, "run_table") == 0 || strcmp(word, "run_book") == 0)
         run(strcmp(word, "run_table") == 0);
-    else if (word != NULL && (strcmp(word, "compile") == 0 || strcmp(word, "slices") == 0))
+    else if (strcmp(word, "compile") == 0 || strcmp(word, "slices") == 0)
         compile(strcmp(word, "slices") == 0);
+    else if (strcmp(word, "read_book") == 0)
+        read_book();
+    else if (strcmp(word, "read_table") == 0)
+        read_table();
+    else if (strcmp(word, "load_table") == 0)
+        load_table();
+    else if (strcmp(word, "run_loaded") == 0)
+        run_loaded();
     else
         unreadable("it doesn't begin with a call's name");
     putchar('\n');

@@ -6,12 +6,19 @@ table_a=(30 02 00 03
     31 00 33 00 01 33 00 00 34 01
     31 01 32 00 33 00 01 34 00 33 00 02 34 01 34 01
     31 00 33 00 02 34 00 33 00 02 34 01 00)
+# The table as numbers: K, then a row of six for each state.
+loaded_a=(2
+    0 0 7 0 1 257
+    1 0 7 1 4294967295 65794
+    0 0 4294967295 1 4294967295 257)
 
 # ---- Runs ----
 
-# run_a NAME SENTENCE RESULT: A's table, and A itself, with an output slice of seven bytes.
+# run_a NAME SENTENCE RESULT: A's table, the loaded table, and A itself, with an output slice of seven bytes.
 run_a() {
     call "table A, $1" "run_table 7 ${table_a[*]} / $2" "$3"
+    call "loaded table A, $1" "run_loaded 7 ${loaded_a[*]} / $2" "$3"
+    call "loaded table A with numbers behind it, $1" "run_loaded 7 ${loaded_a[*]} 4294967295 0 7 / $2" "$3"
     call "book A, $1" "run_book 7 $book_a / $2" "$3"
 }
 
@@ -26,12 +33,47 @@ run_a 'the longest sentence, no room' "$(times 65535 ' 00')" 'refused 11, output
 longer=$(times 65536 ' 03')
 run_a 'a longer sentence with a tag not below K' "$longer" 'refused 13, output 7 7 7 7 7 7 7'
 call 'no table, a longer sentence' "run_table 2 30 / $longer" 'refused 12, output 7 7'
+call 'K 49, a longer sentence' "run_loaded 2 49 / $longer" 'refused 12, output 7 7'
+
+# ---- Books read ----
+
+# book_read NAME BOOK RESULT
+book_read() { call "$1, read" "read_book $2" "$3"; }
+
+book_read 'book A' "$book_a" 'tags 2, rules 1'
+book_read 'no rules, most tags' '20 30 00' 'tags 48, rules 0'
+book_read '16 rules' "20 02$(times 16 ' 21 00 01 22 00') 00" 'tags 2, rules 16'
+book_read 'no bytes' '' 'refused 1'
+book_read 'another command' '23 02 00' 'refused 1'
+book_read 'the first byte alone' '20' 'refused 1 at byte 1'
+book_read 'book A without its end' "${book_a% *}" 'refused 1 at byte 9'
+book_read 'book A and 00' "$book_a 00" 'refused 1 at byte 10'
+book_read 'a tag before a rule' '20 02 22 00 00' 'refused 1 at byte 2'
+book_read 'K 1' '20 01 00' 'refused 2 at byte 1'
+book_read 'K 49' '20 31' 'refused 2 at byte 1'
+book_read 'an empty pattern' '20 02 21 00 01 00' 'refused 3 at byte 5'
+book_read 'a seventh tag' "20 02 21 00 01$(times 7 ' 22 00') 00" 'refused 3 at byte 17'
+book_read 'a new tag not below K' '20 02 21 00 02 22 00 00' 'refused 4 at byte 4'
+book_read 'a tag not below K' '20 02 21 00 01 22 02 00' 'refused 4 at byte 6'
+book_read 'a place outside the pattern' '20 02 21 01 01 22 00 00' 'refused 5 at byte 7'
+book_read 'the same tag' '20 02 21 00 00 22 00 21' 'refused 6 at byte 7'
+book_read 'a seventeenth rule' "20 02$(times 16 ' 21 00 01 22 00') 21" 'refused 7 at byte 82'
 
 # ---- Tables ----
 
-# well_formed NAME TABLE, malformed NAME TABLE: the table is read, by a run over no tags.
-well_formed() { call "$1" "run_table 2 $2 /" '0 changed, output 7 7'; }
-malformed() { call "$1" "run_table 2 $2 /" 'refused 12, output 7 7'; }
+# well_formed NAME TABLE, malformed NAME TABLE: the table is read, by a run over no tags and by the calls that read and load it.
+well_formed() {
+    local size
+    read -ra size <<<"$2"
+    call "$1" "run_table 2 $2 /" '0 changed, output 7 7'
+    call "$1, read" "read_table $2" "tags $((0x${size[1]})), states $((0x${size[2]} * 256 + 0x${size[3]}))"
+    call "$1, no numbers" "load_table 0 $2" 'refused 11, loaded'
+}
+malformed() {
+    call "$1" "run_table 2 $2 /" 'refused 12, output 7 7'
+    call "$1, read" "read_table $2" 'refused 12'
+    call "$1, no numbers" "load_table 0 $2" 'refused 12, loaded'
+}
 
 # identity K: the identity of one state.
 identity() {
@@ -126,6 +168,84 @@ malformed 'two tags put out for one' '30 02 00 01 31 00 33 00 00 34 00 34 00 33 
 malformed 'no tag put out for one' '30 02 00 01 31 00 33 00 00 33 00 00 34 01 00'
 malformed 'a step too few' '30 02 00 01 31 00 33 00 00 34 00 00'
 malformed 'a step too many' '30 02 00 01 31 00 33 00 00 34 00 33 00 00 34 01 33 00 00 34 01 00'
+
+# ---- Loaded tables ----
+
+# load NAME ROOM TABLE RESULT
+load() { call "$1, loaded" "load_table $2 $3" "$4"; }
+
+load 'table A' 19 "${table_a[*]}" "19 numbers, loaded ${loaded_a[*]}"
+load 'table A, a longer slice' 22 "${table_a[*]}" "19 numbers, loaded ${loaded_a[*]} 7 7 7"
+load 'table A, one number short' 18 "${table_a[*]}" "refused 11, loaded$(times 18 ' 7')"
+load 'table A, no numbers' 0 "${table_a[*]}" 'refused 11, loaded'
+load 'table A, one step unbalanced' 19 "$(a_with 8 00)" "refused 12, loaded$(times 19 ' 7')"
+load 'table A, one step unbalanced, one number short' 18 "$(a_with 8 00)" "refused 12, loaded$(times 18 ' 7')"
+load 'identity, K 2' 8 "$(identity 2)" '7 numbers, loaded 2 0 0 4294967295 1 4294967295 257 7'
+load 'a state that puts out what it reads and holds a tag' 13 \
+    '30 02 00 02 31 00 33 00 01 33 00 01 31 01 32 00 33 00 01 34 00 33 00 01 34 01 00' '13 numbers, loaded 2 0 0 7 0 7 0 1 0 7 1 7 257'
+# States that hold 0 to 4 zeros: three tags stand in a word's number, four and five behind the rows, at 31, 35 and 39
+load 'ladder' 45 "$(ladder 4)" "44 numbers, loaded 2 0 0 7 0 1 257 1 0 13 0 1 65538 2 0 19 0 1 16777219 3 0 25 0 1 7940 \
+8964 0 25 1 1 9989 0 0 0 1 0 0 0 0 0 0 0 0 1 7"
+
+# with AT NUMBER [AT NUMBER]: the loaded table A with other numbers at one or two places.
+with() {
+    local loaded=("${loaded_a[@]}")
+    loaded[$1]=$2
+    [ $# -eq 2 ] || loaded[$3]=$4
+    echo "${loaded[*]}"
+}
+
+# run NAME NUMBERS SENTENCE RESULT: with an output slice of four bytes.
+run() { call "loaded table A, $1" "run_loaded 4 $2 / $3" "$4"; }
+none='refused 12, output 7 7 7 7'
+
+# The head, before the sentence
+run 'no numbers' '' '00' "$none"
+for k in 0 1 49 258 4294967295; do
+    run "K $k and a tag not below any K" "$(with 0 "$k")" 'ff' "$none"
+done
+run 'K 3, 0' "$(with 0 3)" '00' '0 changed, output 0 7 7 7'
+run 'K 3, 2' "$(with 0 3)" '02' "$none"
+run 'K 48' "$(with 0 48)" '30' 'refused 4, output 7 7 7 7'
+run 'K 48, no row' "$(with 0 48)" '' "$none"
+run 'K alone' '2' '' "$none"
+run 'K alone, no room' '2' '00 00 00 00 00' 'refused 11, output 7 7 7 7'
+# Rows: cut off, moved, to a row that is whole and to one that is not
+run 'the first row, one number short' "${loaded_a[*]:0:6}" '' "$none"
+run 'the first row, no tags' "${loaded_a[*]:0:7}" '' '0 changed, output 7 7 7 7'
+run 'the first row, 1 1' "${loaded_a[*]:0:7}" '01 01' '0 changed, output 1 1 7 7'
+run 'the first row, 0' "${loaded_a[*]:0:7}" '00' "$none"
+run 'without the last row, 0 0 1 0' "${loaded_a[*]:0:13}" '00 00 01 00' '1 changed, output 0 1 1 0'
+run 'a next row at 14, 0' "$(with 3 14)" '00' "$none"
+run 'a next row at 14, 1' "$(with 3 14)" '01' '0 changed, output 1 7 7 7'
+run 'a next row at 13, 0' "$(with 3 13)" '00' "$none"
+moved=$(with 3 13 4 257)
+run 'a next row at 13 and a word, 0 1' "$moved" '00 01' '1 changed, output 1 1 7 7'
+run 'a next row at 13 and a word, 0 0' "$moved" '00 00' '1 changed, output 1 0 7 7'
+run 'a next row at 13 and a word, one number short, 0 0' "${moved% *}" '00 00' "$none"
+for place in 4294967294 4294967293 4294967292 4294967291; do
+    run "a next row at $place, 0 0" "$(with 3 $place)" '00 00' "$none"
+done
+run 'resting too soon, 0 0' "$(with 3 4294967295)" '00 00' "$none"
+run 'resting too soon, with its tag, 0 1' "$(with 3 4294967295 4 257)" '00 01' '1 changed, output 1 1 7 7'
+# Words: too long, too short, with tags not below K, behind the slice
+run 'a word of two, 1' "$(with 6 65794)" '01' "$none"
+run 'no word, 1' "$(with 6 0)" '01' "$none"
+run 'no final word, 0' "$(with 7 0)" '00' "$none"
+run 'a final word of two, 0' "$(with 7 2)" '00' "$none"
+run 'a final word of two, 0 1' "$(with 7 2)" '00 01' '1 changed, output 1 1 7 7'
+run 'a word of the tag 2, 1' "$(with 6 513)" '01' "$none"
+run 'a final word of the tag 2, 0' "$(with 7 513)" '00' "$none"
+run 'a word of the tag 2, not met, 0' "$(with 6 513)" '00' '0 changed, output 0 7 7 7'
+run 'a long word beyond the end, 0' "$(with 7 $((16 * 256 + 4)))" '00' "$none"
+# One row over 8 tags that puts out nothing until the end, and then the four tags behind it, which are the lowest bytes of their numbers
+hoard="8 $((19 * 256 + 4)) 0$(times 8 ' 1 0') 256 513 1"
+run_hoard() { call "a row that hoards, $1" "run_loaded 4 $hoard $2 / $3" "$4"; }
+run_hoard 'four tags' '256' '00 00 00 00' '2 changed, output 0 1 1 0'
+run_hoard 'four tags with numbers behind' '263 9' '01 01 01 01' '2 changed, output 0 1 1 7'
+run_hoard 'one number short' '' '00 00 00 00' "$none"
+run_hoard 'a tag not below K' '264' '00 00 00 00' "$none"
+run_hoard 'three tags' '256' '00 00 00' "$none"
 
 # ---- Compiling ----
 

@@ -14,22 +14,25 @@
 
 enum { REFUSALS = 14, SIZES = 9, MOST_SHOWN = 4096, SECONDS_A_CALL = 100 };
 
-static const char *const call_name[CALLS] = {"nedzsuka_compile", "nedzsuka_run_book", "nedzsuka_run_table"};
+static const char *const call_name[CALLS] = {"nedzsuka_compile",    "nedzsuka_run_book",   "nedzsuka_run_table", "nedzsuka_read_book",
+                                             "nedzsuka_read_table", "nedzsuka_load_table", "nedzsuka_run_loaded"};
 
 static struct {
     enum call call;
-    const uint8_t *bytes, *sentence;
+    const uint8_t *bytes, *sentence; /* bytes: of the book, the table or the loaded numbers */
     size_t length, sentence_len, work_len, out_len;
     uint64_t ceiling, answer, expected;
 } now;
 
-static struct slice first_slice, sentence_slice, out_slice, work_slice;
+static struct slice first_slice, sentence_slice, out_slice, work_slice, loaded_slice;
 static uint8_t *expected_out;
 static uint16_t *expected_work;
+static uint32_t *expected_loaded;
 static uint64_t seed_used, calls_made, refusals[CALLS][REFUSALS], ten_at[257];
 static uint64_t tables_by_size[SIZES], most_held, longest_table;
 
 const uint8_t *last_out;
+const uint32_t *last_loaded;
 
 static void print_hex(const char *name, const uint8_t *bytes, size_t length)
 {
@@ -39,17 +42,29 @@ static void print_hex(const char *name, const uint8_t *bytes, size_t length)
     fprintf(stderr, "%s\n", length > MOST_SHOWN ? " .. (the seed gives the rest)" : "");
 }
 
+static void print_input(void)
+{
+    if (now.call == RUN_LOADED) {
+        fprintf(stderr, "loaded, %zu numbers:", now.length / sizeof(uint32_t));
+        for (size_t i = 0; i < now.length / sizeof(uint32_t) && i < MOST_SHOWN; i++)
+            fprintf(stderr, " %" PRIu32, ((const uint32_t *)(const void *)now.bytes)[i]);
+        fprintf(stderr, "\n");
+        return;
+    }
+    print_hex(now.call == RUN_TABLE || now.call == READ_TABLE || now.call == LOAD_TABLE ? "table" : "book", now.bytes, now.length);
+}
+
 void fail(const char *what)
 {
     fprintf(stderr, "compare: %s: %s (seed %" PRIu64 ", call %" PRIu64 ")\n", call_name[now.call], what, seed_used, calls_made);
     fprintf(stderr, "answer %" PRIu64 " with refusal %" PRIu64 ", expected %" PRIu64 " with refusal %" PRIu64 "\n", now.answer >> 8,
             now.answer & 255, now.expected >> 8, now.expected & 255);
-    print_hex(now.call == RUN_TABLE ? "table" : "book", now.bytes, now.length);
+    print_input();
     if (now.call == COMPILE)
         fprintf(stderr, "ceiling %" PRIu64 ", work slice of %zu entries, ", now.ceiling, now.work_len);
-    else
+    else if (now.call == RUN_BOOK || now.call == RUN_TABLE || now.call == RUN_LOADED)
         print_hex("sentence", now.sentence, now.sentence_len);
-    fprintf(stderr, "output slice of %zu bytes\n", now.out_len);
+    fprintf(stderr, "output slice of %zu %s\n", now.out_len, now.call == LOAD_TABLE ? "numbers" : "bytes");
     _exit(1);
 }
 
@@ -75,12 +90,14 @@ void start_calls(uint64_t seed)
 
     seed_used = seed;
     random_seed(seed);
-    first_slice = make_slice(TABLE_ROOM);
+    first_slice = make_slice(TABLE_ROOM * sizeof(uint32_t));
     sentence_slice = make_slice(LONGEST_TRIED_SENTENCE);
     out_slice = make_slice(TABLE_ROOM);
     work_slice = make_slice((MOST_WORK + 1000) * sizeof(uint16_t));
+    loaded_slice = make_slice(TABLE_ROOM * sizeof(uint32_t));
     expected_out = room_for(TABLE_ROOM);
     expected_work = room_for((MOST_WORK + 1000) * sizeof(uint16_t));
+    expected_loaded = room_for(TABLE_ROOM * sizeof(uint32_t));
     for (size_t i = 0; i < sizeof caught / sizeof *caught; i++)
         signal(caught[i], on_signal);
 }
@@ -153,7 +170,11 @@ static void check_call(void)
         fail("another answer than the reference's");
     if ((now.answer & 255) >= REFUSALS)
         fail("no such refusal");
-    check_input(&first_slice, now.bytes, "the call changes its book or table");
+    check_input(&first_slice, now.bytes, "the call changes its book, table or loaded numbers");
+}
+
+static void check_out(void)
+{
     check_output(&out_slice, expected_out, "another output slice than the reference's");
 }
 
@@ -182,9 +203,10 @@ uint64_t compare_compile(const uint8_t *book, size_t book_len, uint64_t ceiling,
     now.answer = nedzsuka_compile(first_slice.at, book_len, ceiling, (uint16_t *)(void *)work_slice.at, work_len, out_slice.at,
                                   out_len);
     check_call();
+    check_out();
     check_output(&work_slice, expected_work, "the work slice isn't what document 01 says");
     count_answer();
-    if ((now.answer & 255) == 0 && now.answer >> 8 > nedzsuka_table_bytes(book[1], rules_in(book), ceiling))
+    if ((now.answer & 255) == 0 && now.answer >> 8 > nedzsuka_table_bytes(ceiling, book[1], rules_in(book)))
         fail("a longer table than the header allows");
     return now.answer;
 }
@@ -207,6 +229,63 @@ uint64_t compare_run(enum call call, const uint8_t *bytes, size_t length, const 
     now.answer = (call == RUN_BOOK ? nedzsuka_run_book : nedzsuka_run_table)(first_slice.at, length, sentence_slice.at,
                                                                              sentence_len, out_slice.at, out_len);
     check_call();
+    check_out();
+    check_input(&sentence_slice, sentence, "the call changes its sentence");
+    count_answer();
+    return now.answer;
+}
+
+uint64_t compare_read(enum call call, const uint8_t *bytes, size_t length)
+{
+    now.call = call;
+    now.bytes = bytes;
+    now.length = length;
+    now.out_len = 0;
+    lend_input(&first_slice, bytes, length);
+    now.expected = (call == READ_BOOK ? reference_read_book : reference_read_table)(bytes, length);
+    alarm(SECONDS_A_CALL);
+    now.answer = (call == READ_BOOK ? nedzsuka_read_book : nedzsuka_read_table)(first_slice.at, length);
+    check_call();
+    count_answer();
+    return now.answer;
+}
+
+uint64_t compare_load(const uint8_t *table, size_t table_len, size_t loaded_len)
+{
+    now.call = LOAD_TABLE;
+    now.bytes = table;
+    now.length = table_len;
+    now.out_len = loaded_len;
+    lend_input(&first_slice, table, table_len);
+    lend_random(&loaded_slice, loaded_len * sizeof(uint32_t), expected_loaded);
+    now.expected = reference_load_table(table, table_len, expected_loaded, loaded_len);
+    alarm(SECONDS_A_CALL);
+    now.answer = nedzsuka_load_table(first_slice.at, table_len, (uint32_t *)(void *)loaded_slice.at, loaded_len);
+    check_call();
+    check_output(&loaded_slice, expected_loaded, "another loaded slice than the reference's");
+    last_loaded = (const uint32_t *)(const void *)loaded_slice.at;
+    count_answer();
+    return now.answer;
+}
+
+uint64_t compare_run_loaded(const uint32_t *loaded, size_t loaded_len, const uint8_t *sentence, size_t sentence_len,
+                            size_t out_len)
+{
+    now.call = RUN_LOADED;
+    now.bytes = (const uint8_t *)loaded;
+    now.length = loaded_len * sizeof *loaded;
+    now.sentence = sentence;
+    now.sentence_len = sentence_len;
+    now.out_len = out_len;
+    lend_input(&first_slice, now.bytes, now.length);
+    lend_input(&sentence_slice, sentence, sentence_len);
+    lend_random(&out_slice, out_len, expected_out);
+    now.expected = reference_run_loaded(loaded, loaded_len, sentence, sentence_len, expected_out, out_len);
+    alarm(SECONDS_A_CALL);
+    now.answer = nedzsuka_run_loaded((const uint32_t *)(const void *)first_slice.at, loaded_len, sentence_slice.at, sentence_len,
+                                     out_slice.at, out_len);
+    check_call();
+    check_out();
     check_input(&sentence_slice, sentence, "the call changes its sentence");
     count_answer();
     return now.answer;

@@ -7,6 +7,7 @@
 #include "brute.h"
 #include "calls.h"
 #include "generate.h"
+#include "loaded.h"
 #include "nedzsuka.h"
 #include "slices.h"
 
@@ -28,35 +29,6 @@ static size_t value_of(uint64_t answer)
 static size_t states_of(const uint8_t *bytes)
 {
     return (size_t)bytes[2] * 256 + bytes[3];
-}
-
-/* Both runs' output slices: as long as needed, a byte short, longer or of no bytes. */
-static size_t some_room(size_t needed)
-{
-    switch (random_below(8)) {
-    case 0:
-        return needed == 0 ? 0 : needed - 1;
-    case 1:
-        return needed + 1 + random_below(40);
-    case 2:
-        return random_below(needed + 1);
-    case 3:
-        return one_in(3) ? 0 : needed;
-    default:
-        return needed;
-    }
-}
-
-static size_t some_length(void)
-{
-    switch (random_below(8)) {
-    case 0:
-        return random_below(3);
-    case 1:
-        return random_below(120);
-    default:
-        return random_below(24);
-    }
 }
 
 /* ---- What document 01 prints ---- */
@@ -157,7 +129,10 @@ static void compare_damaged_bytes(enum call call, const uint8_t *bytes, size_t l
 
     if (call == RUN_BOOK)
         compare_compile(bytes, length, 4, work_entries(4, 48, 2), 300);
+    else
+        compare_load(bytes, length, 60);
     compare_run(call, bytes, length, tags, sizeof tags, sizeof tags);
+    compare_read(call == RUN_BOOK ? READ_BOOK : READ_TABLE, bytes, length);
 }
 
 static void compare_every_byte(enum call call, const uint8_t *bytes, size_t length)
@@ -197,15 +172,6 @@ static void compare_every_byte_of_some(void)
 
 /* ---- Runs ---- */
 
-static void some_sentence(size_t length, size_t tags)
-{
-    static const uint8_t wrong[] = {48, 49, 127, 128, 255};
-
-    random_sentence(sentence, length, tags);
-    if (length > 0 && one_in(10))
-        sentence[random_below(length)] = one_in(2) ? (uint8_t)tags : wrong[random_below(sizeof wrong)];
-}
-
 /* A book and its compiled table do the same of the sentence. */
 static void compare_both_runs(const uint8_t *book, size_t book_len, size_t table_len, size_t length)
 {
@@ -223,9 +189,9 @@ static void compare_runs(const uint8_t *book, size_t book_len, size_t table_len,
 {
     while (times-- > 0) {
         size_t length = some_length();
-        some_sentence(length, book[1]);
+        some_sentence(sentence, length, book[1]);
         compare_both_runs(book, book_len, table_len, length);
-        some_sentence(length, book[1]);
+        some_sentence(sentence, length, book[1]);
         compare_run(RUN_BOOK, book, book_len, sentence, length, some_room(length));
         if (table_len < 50000)
             compare_run(RUN_TABLE, table, table_len, sentence, length, some_room(length));
@@ -245,6 +211,7 @@ static void compare_long_runs(const uint8_t *book, size_t book_len, size_t table
     compare_both_runs(book, book_len, table_len, length);
     compare_run(RUN_TABLE, table, table_len, sentence, length, length - random_below(2));
     compare_run(RUN_BOOK, book, book_len, sentence, length, length - random_below(2));
+    compare_loaded_sentence(table, table_len, sentence, length);
 }
 
 /* ---- Compiling ---- */
@@ -316,6 +283,8 @@ static void compare_book(const struct made_book *book, size_t runs)
         return;
     compare_around(book, bytes, length, table_len);
     compare_runs(bytes, length, table_len, runs);
+    compare_read(READ_BOOK, bytes, length);
+    compare_loaded_table(table, table_len, runs);
     if (one_in(20))
         compare_long_runs(bytes, length, table_len);
 }
@@ -414,8 +383,9 @@ static void compare_damaged_books(size_t times)
             length = damage(bytes, length);
         if (ceiling <= 6 || one_in(2))
             compare_compile(bytes, length, ceiling, one_in(8) ? random_below(40) : some_work(work_for(ceiling % 257, &book)), 600);
-        some_sentence(tags, book.tags);
+        some_sentence(sentence, tags, book.tags);
         compare_run(RUN_BOOK, bytes, length, sentence, tags, some_room(tags));
+        compare_read(READ_BOOK, bytes, length);
     }
 }
 
@@ -435,8 +405,9 @@ static void compare_lengthened_books(size_t times)
         if (one_in(4))
             length = damage(bytes, length);
         compare_compile(bytes, length, 1 + random_below(3), work_entries(3, 5, 17), 600);
-        some_sentence(8, tags);
+        some_sentence(sentence, 8, tags);
         compare_run(RUN_BOOK, bytes, length, sentence, 8, 8);
+        compare_read(READ_BOOK, bytes, length);
     }
 }
 
@@ -463,13 +434,17 @@ static void compare_tables(size_t times)
         size_t tags = big ? 2 + random_below(48) : 1 + random_below(5), states = 1 + random_below(big ? 257 : 7);
         size_t held = big ? random_below(one_in(2) ? 82 : 6) : random_below(4), first = one_in(12) ? random_below(3) : 0;
         size_t count = some_length(), length = random_table(tags, states, first, held, bytes);
-        some_sentence(count, tags);
+        some_sentence(sentence, count, tags);
         compare_run(RUN_TABLE, bytes, length, sentence, count, some_room(count));
+        if (one_in(4))
+            compare_loaded_table(bytes, length, 2);
         if (big && states * tags > 4000)
             continue;
         for (int i = 0; i < 2; i++) {
             size_t damaged = damage(bytes, length);
             compare_run(RUN_TABLE, bytes, damaged, sentence, count, some_room(count));
+            if (one_in(4))
+                compare_loaded_table(bytes, damaged, 0);
             length = random_table(tags, states, first, held, bytes);
         }
     }
@@ -488,6 +463,7 @@ static void compare_table_bounds(void)
             random_sentence(sentence, count, 2);
             compare_run(RUN_TABLE, bytes, length, sentence, count, count);
         }
+        compare_loaded_table(bytes, length, 4);
     }
 }
 
@@ -649,6 +625,9 @@ int main(int argc, char **argv)
     compare_published_runs();
     compare_published_tables();
     compare_every_byte_of_some();
+    compare_every_number();
+    compare_hoards();
+    compare_random_numbers(30000);
     compare_small_books();
     compare_tried_books(2500);
     compare_bytes_of_books(30000);

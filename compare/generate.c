@@ -215,3 +215,40 @@ void random_sentence(uint8_t *sentence, size_t length, size_t tags)
     for (size_t i = 0; i < length; i++)
         sentence[i] = (uint8_t)random_below(used);
 }
+
+void some_sentence(uint8_t *sentence, size_t length, size_t tags)
+{
+    static const uint8_t wrong[] = {48, 49, 127, 128, 255};
+
+    random_sentence(sentence, length, tags);
+    if (length > 0 && one_in(10))
+        sentence[random_below(length)] = one_in(2) ? (uint8_t)tags : wrong[random_below(sizeof wrong)];
+}
+
+size_t some_length(void)
+{
+    switch (random_below(8)) {
+    case 0:
+        return random_below(3);
+    case 1:
+        return random_below(120);
+    default:
+        return random_below(24);
+    }
+}
+
+size_t some_room(size_t needed)
+{
+    switch (random_below(8)) {
+    case 0:
+        return needed == 0 ? 0 : needed - 1;
+    case 1:
+        return needed + 1 + random_below(40);
+    case 2:
+        return random_below(needed + 1);
+    case 3:
+        return one_in(3) ? 0 : needed;
+    default:
+        return needed;
+    }
+}

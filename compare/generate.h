@@ -35,5 +35,11 @@ size_t random_table(size_t tags, size_t states, size_t first_held, size_t most_h
 /* Changes, adds, takes out or cuts off some bytes; the result is at most DAMAGED_ROOM longer. */
 size_t damage(uint8_t *bytes, size_t length);
 void random_sentence(uint8_t *sentence, size_t length, size_t tags);
+/* Now and then one of its tags is not below the number of tags. */
+void some_sentence(uint8_t *sentence, size_t length, size_t tags);
+/* The length of a sentence, mostly short. */
+size_t some_length(void);
+/* The length of an output slice: as long as needed, a byte short, longer or of no bytes. */
+size_t some_room(size_t needed);
 
 #endif

@@ -109,27 +109,46 @@ static int read_operand(struct book *book, uint8_t byte, enum expected *expected
     return 0;
 }
 
-static int read_book(const uint8_t *bytes, size_t length, struct book *book)
+/* The byte at which reading ended goes to at. */
+static int read_book_to(const uint8_t *bytes, size_t length, struct book *book, size_t *at)
 {
     enum expected expected = OPENING;
     int refusal = 0;
 
     book->rules = 0;
-    for (size_t i = 0; i < length && !refusal; i++) {
-        if (expected == NOTHING)
-            return 1;
-        if (expected == OPENING) {
-            refusal = bytes[i] == 0x20 ? 0 : 1;
+    for (*at = 0; *at < length; ++*at) {
+        if (expected == NOTHING) {
+            refusal = 1;
+        } else if (expected == OPENING) {
+            refusal = bytes[*at] == 0x20 ? 0 : 1;
             expected = TAGS;
         } else if (expected == COMMAND) {
-            refusal = read_command(book, bytes[i], &expected);
+            refusal = read_command(book, bytes[*at], &expected);
         } else {
-            refusal = read_operand(book, bytes[i], &expected);
+            refusal = read_operand(book, bytes[*at], &expected);
         }
+        if (refusal)
+            return refusal;
     }
-    if (refusal)
-        return refusal;
     return expected == NOTHING ? 0 : 1;
+}
+
+static int read_book(const uint8_t *bytes, size_t length, struct book *book)
+{
+    size_t at;
+
+    return read_book_to(bytes, length, book, &at);
+}
+
+uint64_t reference_read_book(const uint8_t *bytes, size_t length)
+{
+    struct book book;
+    size_t at;
+    int refusal = read_book_to(bytes, length, &book, &at);
+
+    if (refusal)
+        return (uint64_t)at * 256 + (uint64_t)refusal;
+    return ((uint64_t)book.tags * 256 + (uint64_t)book.rules) * 256;
 }
 
 /* ---- The run of a book ---- */
@@ -303,6 +322,181 @@ uint64_t reference_run_table(const uint8_t *table_bytes, size_t table_len, const
         row = &table.row[row->next[sentence[i]]];
     }
     copy_word(to, &row->final);
+    return changed_times_256(sentence, out, sentence_len);
+}
+
+uint64_t reference_read_table(const uint8_t *bytes, size_t length)
+{
+    static struct machine table;
+
+    if (!read_table(bytes, length, &table))
+        return 12;
+    return ((uint64_t)table.tags * 65536 + (uint64_t)table.states) * 256;
+}
+
+/* ---- Tables as numbers ---- */
+
+#define RESTING UINT32_C(0xffffffff)
+
+struct numbers {
+    uint32_t *at;
+    size_t count, behind; /* the next place in the rows, and the next one behind them */
+};
+
+static size_t row_place(const struct machine *table, size_t state)
+{
+    return 1 + state * (size_t)(2 * table->tags + 2);
+}
+
+static size_t long_tags(const struct word *word)
+{
+    return word->length > 3 ? word->length : 0;
+}
+
+static size_t numbers_needed(const struct machine *table)
+{
+    size_t needed = row_place(table, (size_t)table->states);
+
+    for (int state = 0; state < table->states; state++) {
+        needed += long_tags(&table->row[state].final);
+        for (int tag = 0; tag < table->tags; tag++)
+            needed += long_tags(&table->row[state].out[tag]);
+    }
+    return needed;
+}
+
+static int rests(const struct machine *table, int state)
+{
+    const struct row *row = &table->row[state];
+
+    for (int tag = 0; tag < table->tags; tag++)
+        if (row->next[tag] != state || row->out[tag].length != 1 || row->out[tag].tag[0] != tag)
+            return 0;
+    return row->final.length == 0;
+}
+
+/* The first state that rests, or the number of states. */
+static int first_resting(const struct machine *table)
+{
+    int state = 0;
+
+    while (state < table->states && !rests(table, state))
+        state++;
+    return state;
+}
+
+static void number_word(struct numbers *numbers, const struct word *word)
+{
+    uint32_t number = word->length, unit = 256;
+
+    if (long_tags(word) > 0) {
+        number += (uint32_t)numbers->behind * 256;
+        for (int i = 0; i < word->length; i++)
+            numbers->at[numbers->behind++] = word->tag[i];
+    } else {
+        for (int i = 0; i < word->length; i++, unit *= 256)
+            number += word->tag[i] * unit;
+    }
+    numbers->at[numbers->count++] = number;
+}
+
+uint64_t reference_load_table(const uint8_t *bytes, size_t length, uint32_t *loaded, size_t loaded_len)
+{
+    static struct machine table;
+    struct numbers numbers = {loaded, 0, 0};
+    size_t needed;
+    int resting;
+
+    if (!read_table(bytes, length, &table))
+        return 12;
+    needed = numbers_needed(&table);
+    resting = first_resting(&table);
+    if (loaded_len < needed)
+        return 11;
+    numbers.behind = row_place(&table, (size_t)table.states);
+    loaded[numbers.count++] = (uint32_t)table.tags;
+    for (int state = 0; state < table.states; state++) {
+        const struct row *row = &table.row[state];
+        number_word(&numbers, &row->final);
+        loaded[numbers.count++] = 0;
+        for (int tag = 0; tag < table.tags; tag++) {
+            int next = row->next[tag];
+            loaded[numbers.count++] = next == resting ? RESTING : (uint32_t)row_place(&table, (size_t)next);
+            number_word(&numbers, &row->out[tag]);
+        }
+    }
+    return (uint64_t)needed * 256;
+}
+
+/* ---- The run of any numbers ---- */
+
+struct made {
+    size_t length; /* of all that was put out; what is beyond the longest sentence is only counted */
+    uint8_t tag[LONGEST_SENTENCE];
+};
+
+static void make_tag(struct made *made, uint32_t tag)
+{
+    if (made->length < LONGEST_SENTENCE)
+        made->tag[made->length] = (uint8_t)(tag % 256);
+    made->length++;
+}
+
+/* Whether the word lies within the numbers. */
+static int make_word(const uint32_t *loaded, size_t loaded_len, uint32_t number, struct made *made)
+{
+    uint64_t count = number % 256, above = number / 256;
+
+    if (count > 3 && above + count > loaded_len)
+        return 0;
+    for (uint64_t i = 0; i < count; i++) {
+        if (count > 3)
+            make_tag(made, loaded[above + i]);
+        else
+            make_tag(made, number >> (8 * (i + 1)));
+    }
+    return 1;
+}
+
+/* Whether the way meets nothing that lies outside the numbers. */
+static int make_way(const uint32_t *loaded, size_t loaded_len, const uint8_t *sentence, size_t length, struct made *made)
+{
+    uint64_t tags = loaded[0], row = 1;
+
+    made->length = 0;
+    for (size_t i = 0; i < length; i++) {
+        if (row + 2 * tags + 2 > loaded_len)
+            return 0;
+        if (!make_word(loaded, loaded_len, loaded[row + 2 * (uint64_t)sentence[i] + 3], made))
+            return 0;
+        row = loaded[row + 2 * (uint64_t)sentence[i] + 2];
+        if (row == RESTING) {
+            while (++i < length)
+                make_tag(made, sentence[i]);
+            return 1;
+        }
+    }
+    return row + 2 * tags + 2 <= loaded_len && make_word(loaded, loaded_len, loaded[row], made);
+}
+
+uint64_t reference_run_loaded(const uint32_t *loaded, size_t loaded_len, const uint8_t *sentence, size_t sentence_len,
+                              uint8_t *out, size_t out_len)
+{
+    static struct made made;
+    int refusal;
+
+    if (loaded_len == 0 || loaded[0] < 2 || loaded[0] > MOST_TAGS)
+        return 12;
+    refusal = refusal_of_sentence(sentence, sentence_len, (int)loaded[0], out_len);
+    if (refusal)
+        return (uint64_t)refusal;
+    if (!make_way(loaded, loaded_len, sentence, sentence_len, &made) || made.length != sentence_len)
+        return 12;
+    for (size_t i = 0; i < made.length; i++)
+        if (made.tag[i] >= loaded[0])
+            return 12;
+    if (sentence_len > 0)
+        memcpy(out, made.tag, sentence_len);
     return changed_times_256(sentence, out, sentence_len);
 }
 

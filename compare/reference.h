@@ -1,4 +1,4 @@
-/* The three calls a second time, written from the published definitions alone, with the library's signatures. */
+/* The calls a second time, written from the published definitions alone, with the library's signatures. */
 #ifndef REFERENCE_H
 #define REFERENCE_H
 
@@ -11,5 +11,10 @@ uint64_t reference_run_book(const uint8_t *book, size_t book_len, const uint8_t 
                             uint8_t *out, size_t out_len);
 uint64_t reference_run_table(const uint8_t *table, size_t table_len, const uint8_t *sentence, size_t sentence_len,
                              uint8_t *out, size_t out_len);
+uint64_t reference_read_book(const uint8_t *book, size_t book_len);
+uint64_t reference_read_table(const uint8_t *table, size_t table_len);
+uint64_t reference_load_table(const uint8_t *table, size_t table_len, uint32_t *loaded, size_t loaded_len);
+uint64_t reference_run_loaded(const uint32_t *loaded, size_t loaded_len, const uint8_t *sentence, size_t sentence_len,
+                              uint8_t *out, size_t out_len);
 
 #endif

@@ -72,6 +72,7 @@ static uint8_t guard_byte(const struct slice *slice, const uint8_t *place)
 void lend(struct slice *slice, size_t length)
 {
     enum seat seat = (enum seat)random_below(SEATS);
+    size_t step = length % 4 == 0 ? 4 : length % 2 == 0 ? 2 : 1;
 
     slice->length = length;
     slice->salt = (uint8_t)random_bits();
@@ -83,7 +84,7 @@ void lend(struct slice *slice, size_t length)
     if (seat == AT_THE_END)
         slice->at = slice->high - length;
     if (seat == IN_THE_MIDDLE)
-        slice->at = slice->low + GUARD + 2 * random_below(GUARD / 2);
+        slice->at = slice->low + GUARD + step * random_below(GUARD / step);
     for (uint8_t *p = slice->at; p > slice->low && p > slice->at - GUARD; p--)
         p[-1] = guard_byte(slice, p - 1);
     for (uint8_t *p = slice->at + length; p < slice->high && p < slice->at + length + GUARD; p++)

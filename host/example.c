@@ -1,4 +1,4 @@
-/* example [-c CEILING] BOOK [TAG ...]: compiles the book in a file, and tags a sentence with the table. */
+/* example [-c CEILING] BOOK [TAG ...]: compiles the book in a file, loads the table once, and tags a sentence with it. */
 #include <nedzsuka.h>
 
 #include <errno.h>
@@ -118,15 +118,14 @@ static void *allocate(size_t bytes)
     return slice;
 }
 
-/* Compiles into a slice that the caller frees. K is the book's second byte; the number of rules is not known, so the most is taken.
-   With K or the ceiling out of bounds both slices are empty, and the call gives that refusal before it asks for them. */
-static uint64_t compile_book(const uint8_t *book, size_t book_len, uint64_t ceiling, uint8_t **table)
+/* Compiles into a slice that the caller frees. What is needed goes by the ceiling, the book's tags and its rules, which reading it
+   has answered. With a book that is not valid or a ceiling out of bounds both slices are empty, and the call gives that refusal before
+   it asks for them. */
+static uint64_t compile_book(const uint8_t *book, size_t book_len, uint64_t read, uint64_t ceiling, uint8_t **table)
 {
-    uint64_t tags = book_len > 1 ? book[1] : 0;
-    size_t work_len = nedzsuka_work_entries(ceiling, tags, NEDZSUKA_MOST_RULES);
-    size_t table_room = nedzsuka_table_bytes(tags, NEDZSUKA_MOST_RULES, ceiling);
+    uint64_t size = nedzsuka_refusal(read) == NEDZSUKA_OK ? nedzsuka_value(read) : 0, tags = size / 256, rules = size % 256, answer;
+    size_t work_len = nedzsuka_work_entries(ceiling, tags, rules), table_room = nedzsuka_table_bytes(ceiling, tags, rules);
     uint16_t *work = allocate(work_len * sizeof *work);
-    uint64_t answer;
 
     *table = allocate(table_room);
     answer = nedzsuka_compile(book, book_len, ceiling, work, work_len, *table, table_room);
@@ -134,34 +133,20 @@ static uint64_t compile_book(const uint8_t *book, size_t book_len, uint64_t ceil
     return answer;
 }
 
-static const char *in_words(unsigned refusal)
+/* Loads into a slice that the caller frees. As many numbers as the table has bytes are enough. */
+static uint64_t load_table(const uint8_t *table, size_t table_len, uint32_t **loaded)
 {
-    static const char *const words[] = {
-        "no refusal",
-        "the book has a command that is unknown or out of place, too few bytes, or bytes after its end",
-        "the book's number of tags is outside 2 to 48",
-        "a rule's pattern is empty or longer than 6 tags",
-        "a tag of the book or the sentence is not below the book's number of tags",
-        "a rule's place is not within its pattern",
-        "a rule's new tag is the one it replaces",
-        "the book has more than 16 rules",
-        "the ceiling is outside 1 to 256 states",
-        "the work slice is too short",
-        "the rules up to this one need more states than the ceiling in every machine",
-        "the output slice is too short",
-        "the table is not well formed",
-        "the sentence is longer than 65,535 tags",
-    };
-
-    return refusal < sizeof words / sizeof *words ? words[refusal] : "unknown refusal";
+    *loaded = allocate(table_len * sizeof **loaded);
+    return nedzsuka_load_table(table, table_len, *loaded, table_len);
 }
 
-static int refused(uint64_t answer)
+/* What the answer's value names, if anything, is said in front of it. */
+static int refused(uint64_t answer, const char *named)
 {
     fprintf(stderr, "refused %u", nedzsuka_refusal(answer));
-    if (nedzsuka_refusal(answer) == NEDZSUKA_TOO_MANY_STATES)
-        fprintf(stderr, " at rule %" PRIu64, nedzsuka_value(answer));
-    fprintf(stderr, ": %s\n", in_words(nedzsuka_refusal(answer)));
+    if (named != NULL)
+        fprintf(stderr, " at %s %" PRIu64, named, nedzsuka_value(answer));
+    fprintf(stderr, ": %s\n", nedzsuka_in_words(nedzsuka_refusal(answer)));
     return REFUSED;
 }
 
@@ -176,10 +161,9 @@ static int close_output(void)
     return failed("standard output", errno != 0 ? strerror(errno) : "not written in full");
 }
 
-/* The number of states is the table's third and fourth byte. */
-static int print_result(const uint8_t *table, size_t table_len, const uint8_t *result, size_t count, uint64_t changed)
+static int print_result(uint64_t states, size_t table_len, const uint8_t *result, size_t count, uint64_t changed)
 {
-    printf("table: %d states, %zu bytes\n", table[2] * 256 + table[3], table_len);
+    printf("table: %" PRIu64 " state%s, %zu bytes\n", states, states == 1 ? "" : "s", table_len);
     printf("result:");
     for (size_t i = 0; i < count; i++)
         printf(" %d", result[i]);
@@ -187,31 +171,41 @@ static int print_result(const uint8_t *table, size_t table_len, const uint8_t *r
     return close_output();
 }
 
-/* Nothing is printed before the last call has answered: a refusal leaves standard output empty. */
+/* Nothing is printed before the last call has answered: a refusal leaves standard output empty. A host with many sentences loads the
+   table once and makes the run for each. */
 static int tag_sentence(const uint8_t *table, size_t table_len, const uint8_t *sentence, size_t count)
 {
+    uint32_t *loaded;
     uint8_t *result = allocate(count);
-    uint64_t answer = nedzsuka_run_table(table, table_len, sentence, count, result, count);
+    uint64_t answer = load_table(table, table_len, &loaded);
     int status;
 
+    if (nedzsuka_refusal(answer) == NEDZSUKA_OK)
+        answer = nedzsuka_run_loaded(loaded, (size_t)nedzsuka_value(answer), sentence, count, result, count);
     if (nedzsuka_refusal(answer) != NEDZSUKA_OK)
-        status = refused(answer);
+        status = refused(answer, NULL);
     else
-        status = print_result(table, table_len, result, count, nedzsuka_value(answer));
+        status = print_result(nedzsuka_value(nedzsuka_read_table(table, table_len)) % 65536, table_len, result, count,
+                              nedzsuka_value(answer));
     free(result);
+    free(loaded);
     return status;
 }
 
 static int run(const uint8_t *book, size_t book_len, uint64_t ceiling, const uint8_t *sentence, size_t count)
 {
     uint8_t *table;
-    uint64_t answer = compile_book(book, book_len, ceiling, &table);
+    uint64_t read = nedzsuka_read_book(book, book_len), answer = compile_book(book, book_len, read, ceiling, &table);
     int status;
 
-    if (nedzsuka_refusal(answer) != NEDZSUKA_OK)
-        status = refused(answer);
-    else
+    if (nedzsuka_refusal(answer) == NEDZSUKA_OK)
         status = tag_sentence(table, (size_t)nedzsuka_value(answer), sentence, count);
+    else if (nedzsuka_refusal(answer) == NEDZSUKA_TOO_MANY_STATES)
+        status = refused(answer, "rule");
+    else if (nedzsuka_refusal(answer) == nedzsuka_refusal(read))
+        status = refused(read, "byte");
+    else
+        status = refused(answer, NULL);
     free(table);
     return status;
 }

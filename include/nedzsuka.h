@@ -3,23 +3,29 @@
    A tag is a number from 0 to K - 1. A rule changes one tag of a pattern of 1 to 6 tags: the leftmost occurrence of the pattern in the
    sentence, once; where it occurs nowhere, the sentence stays as it is. A book applies its rules in order, each to the result of the
    one before. A table is a sequential transducer: it starts in state 0, reads the tags once from left to right, puts out zero or more
-   tags at each, and at the end the final word of its state.
+   tags at each, and at the end the final word of its state. A loaded table is a table as numbers, made for running.
+
+   Which call is for what: nedzsuka_run_book for a book that is still edited; nedzsuka_run_table for a table that is used once;
+   nedzsuka_load_table, once, and then nedzsuka_run_loaded for a table that is run on every sentence.
 
    What holds of every call
    - For any bytes, numbers and slices it ends, with a result or with a numbered refusal, and which one is fixed by what it was given.
    - The answer is one number: the result's length or count times 256, plus the refusal, 0 for none. On a refusal the upper part is 0;
-     with 10 it is the rule's number. nedzsuka_value and nedzsuka_refusal take it apart.
-   - A refused call writes no byte of the output slice. Otherwise the result stands at the front of the output slice, and what lies
-     beyond the result keeps its bytes.
+     with 10 it is the rule's number, and with a refusal of nedzsuka_read_book the byte. nedzsuka_value and nedzsuka_refusal take it
+     apart, and nedzsuka_in_words puts a refusal into words.
+   - A refused call writes nothing into the output slice. Otherwise the result stands at the front of the output slice, and what lies
+     beyond the result stays as it was. The output slice of nedzsuka_load_table is the loaded one.
    - The other slices are only read, the work slice of compile excepted.
    - It allocates nothing and keeps nothing from one call to the next: several threads may call at once, each with output and work
-     slices of its own. nedzsuka_run_table takes less than 2,000 bytes of the stack if S * (K + 1) is at most 192, some 10,200 if it is
-     at most 1,024, some 35,000 if it is at most 4,096, else some 102,500; the other two take less than 2,000.
+     slices of its own. One loaded table serves several threads, since running it only reads it.
+   - nedzsuka_run_table takes less than 2,000 bytes of the stack if S * (K + 1) is at most 192, some 10,200 if it is at most 1,024, some
+     35,000 if it is at most 4,096, else some 102,500; nedzsuka_compile, nedzsuka_run_book and nedzsuka_read_book take less than 2,000.
 
    What is asked of the caller
    - A pointer reaches as many entries as the length beside it says. It may be null only where that length is 0.
-   - The work pointer is aligned for uint16_t.
+   - The work pointer is aligned for uint16_t, the loaded pointer for uint32_t.
    - The output slice and the work slice overlap no other slice of the same call. Slices that are only read may overlap one another.
+   - While a call reads a slice, nothing writes to it. Between calls a host may write what it likes, also over a loaded table.
 
    Bytes of a book (hexadecimal): 20 K opens it; 21 p t opens a rule that puts tag t in place p, counted from 0, and closes the rule
    before; 22 t is the next tag of the rule's pattern; 00 closes the last rule and the book, and is the last byte.
@@ -34,6 +40,10 @@
 
 #include <stddef.h>
 #include <stdint.h>
+
+/* The version, in words and as 10,000 * major + 100 * minor + patch. */
+#define NEDZSUKA_VERSION "0.2.0"
+#define NEDZSUKA_VERSION_NUMBER 200
 
 #ifdef __cplusplus
 extern "C" {
@@ -67,8 +77,8 @@ enum nedzsuka_refusal_number {
     NEDZSUKA_BAD_CEILING = 8,        /* compile: a ceiling outside 1 to 256 */
     NEDZSUKA_SHORT_WORK = 9,         /* compile: fewer work entries than nedzsuka_work_entries says */
     NEDZSUKA_TOO_MANY_STATES = 10,   /* compile: the first i rules need more states than the ceiling; i is the answer's value */
-    NEDZSUKA_SHORT_OUTPUT = 11,      /* all calls: the output slice is shorter than the result */
-    NEDZSUKA_BAD_TABLE = 12,         /* table: not well formed */
+    NEDZSUKA_SHORT_OUTPUT = 11,      /* every call with an output slice: it is shorter than the result */
+    NEDZSUKA_BAD_TABLE = 12,         /* table: not well formed; loaded table: its numbers make no result of the sentence */
     NEDZSUKA_LONG_SENTENCE = 13      /* sentence: longer than 65,535 tags */
 };
 
@@ -89,8 +99,8 @@ enum nedzsuka_refusal_number {
      every sequential transducer that does what these rules do; the least such i is named.
    - 11: out_len is below the table's length.
 
-   nedzsuka_work_entries and nedzsuka_table_bytes, below, give lengths of work and out that are enough. K is the book's second byte;
-   where the number of rules is not known, 16, NEDZSUKA_MOST_RULES, is enough.
+   nedzsuka_work_entries and nedzsuka_table_bytes, below, give lengths of work and out that are enough; nedzsuka_read_book gives the K
+   and the number of rules that they ask for. Time and memory grow with the ceiling, whatever the number of states is in the end.
 
    The work slice keeps its numbers on the refusals before 10 (8, 1 to 7 and 9). On 10, on 11 and with a result its first
    16 * ceiling * (K + 1) * (5 * m + 8) entries are zero and the rest unchanged. What it holds before the call plays no part. */
@@ -108,6 +118,12 @@ uint64_t nedzsuka_compile(const uint8_t *book, size_t book_len, uint64_t ceiling
 uint64_t nedzsuka_run_book(const uint8_t *book, size_t book_len, const uint8_t *sentence, size_t sentence_len, uint8_t *out,
                            size_t out_len);
 
+/* Reads a book and answers K * 256 + the number of its rules.
+
+   Refusals: 1 to 7, as for nedzsuka_compile. The upper part is the byte at which the refusal is given, counted from 0; book_len where
+   bytes are missing. */
+uint64_t nedzsuka_read_book(const uint8_t *book, size_t book_len);
+
 /* Runs a table over a sentence, one tag a byte: what the transducer puts out, its final word included, goes to the front of out and is
    as long as the sentence. Answers the number of places at which sentence and result differ. For a compiled table the answer and
    the result are those of its book.
@@ -120,16 +136,77 @@ uint64_t nedzsuka_run_book(const uint8_t *book, size_t book_len, const uint8_t *
 uint64_t nedzsuka_run_table(const uint8_t *table, size_t table_len, const uint8_t *sentence, size_t sentence_len, uint8_t *out,
                             size_t out_len);
 
+/* Reads a table and answers K * 65,536 + S, its number of states.
+
+   Refusal: 12, the table is not well formed. */
+uint64_t nedzsuka_read_table(const uint8_t *table, size_t table_len);
+
+/* Loads a table: writes it as numbers to the front of loaded and answers how many they are. table_len numbers are always enough. What
+   nedzsuka_run_loaded makes of these numbers, with anything behind them, is what nedzsuka_run_table makes of the table, for every
+   sentence and every output slice.
+
+   The numbers are K, then for each state a row of 2 * K + 2, then the tags of long words, one a number. A row has its state's final
+   word and a 0, and for each tag the place of the next state's row, counted from 0 at K, and the word put out; the row of state q is at
+   place 1 + q * (2 * K + 2). A word of n tags is n + 256 * a + 65,536 * b + 16,777,216 * c with its tags a, b, c as far as it has them, or
+   with more than three n + 256 * p, p being the place of its first tag behind the rows; long words stand there in the order in which
+   the rows name them. In place of a next row stands 4,294,967,295 if the next state is the first one that rests: it holds nothing,
+   and each tag is put out as it is and leads to the state itself. The rest of the sentence is then put out as it is.
+
+   Refusals, in this order:
+   - 12: the table is not well formed.
+   - 11: loaded_len is below the number of numbers. */
+uint64_t nedzsuka_load_table(const uint8_t *table, size_t table_len, uint32_t *loaded, size_t loaded_len);
+
+/* Runs a loaded table over a sentence, one tag a byte: what it puts out goes to the front of out and is as long as the sentence.
+   Answers the number of places at which sentence and result differ. A sentence costs its tags, whatever the size of the table.
+
+   The slice may hold any numbers. Each is looked at only where the sentence's way meets it, and tested there: it is never read outside
+   the slice, and every tag of a result is below K. So a loaded table that was written over gives 12 or some sentence over its K.
+
+   Refusals, in this order:
+   - 12: loaded_len is 0, or the first number, K, is outside 2 to 48.
+   - 13: sentence_len is above 65,535.
+   - 4: a tag of the sentence is not below K.
+   - 11: out_len is below sentence_len.
+   - 12: on the sentence's way, from place 1 on, a row or a long word does not lie within the slice; or what is put out is not as long
+     as the sentence, or has a tag that is not below K. */
+uint64_t nedzsuka_run_loaded(const uint32_t *loaded, size_t loaded_len, const uint8_t *sentence, size_t sentence_len, uint8_t *out,
+                             size_t out_len);
+
 /* The refusal of an answer, 0 for none. */
 static inline unsigned nedzsuka_refusal(uint64_t answer)
 {
     return (unsigned)(answer & 255u);
 }
 
-/* The length or count of an answer; the rule, counted from 1, with 10; 0 with any other refusal. */
+/* The length, count or sizes of an answer; the rule, counted from 1, with 10; the byte, counted from 0, with a refusal of
+   nedzsuka_read_book; 0 with any other refusal. */
 static inline uint64_t nedzsuka_value(uint64_t answer)
 {
     return answer >> 8;
+}
+
+/* A refusal in words, which stay where they are. */
+static inline const char *nedzsuka_in_words(unsigned refusal)
+{
+    static const char *const words[] = {
+        "no refusal",
+        "the book has a command that is unknown or out of place, too few bytes, or bytes after its end",
+        "the book's number of tags is outside 2 to 48",
+        "a rule's pattern is empty or longer than 6 tags",
+        "a tag of the book or the sentence is not below the number of tags",
+        "a rule's place is not within its pattern",
+        "a rule's new tag is the one it replaces",
+        "the book has more than 16 rules",
+        "the ceiling is outside 1 to 256 states",
+        "the work slice is too short",
+        "the rules up to this one need more states than the ceiling in every machine",
+        "the output slice is too short",
+        "the table is not well formed, or the loaded one makes no result of the sentence",
+        "the sentence is longer than 65,535 tags",
+    };
+
+    return refusal < sizeof words / sizeof *words ? words[refusal] : "unknown refusal";
 }
 
 /* The entries, of two bytes each, that compile asks of its work slice for a ceiling, the book's K and its number of rules. K is the
@@ -144,10 +221,10 @@ static inline size_t nedzsuka_work_entries(uint64_t ceiling, uint64_t tags, uint
     return (size_t)(16 * ceiling * (tags + 1) * (5 * rules + 8));
 }
 
-/* Bytes that are enough for the table of every book with this K, at most this many rules and at most this ceiling of states: a rule has
-   each state hold at most 5 tags more. K is the book's second byte; where the number of rules is not known, 16, NEDZSUKA_MOST_RULES,
-   is enough. For arguments outside the bounds it is 0. The ceiling is the last argument here and the first of nedzsuka_work_entries. */
-static inline size_t nedzsuka_table_bytes(uint64_t tags, uint64_t rules, uint64_t ceiling)
+/* Bytes that are enough for the table of every book with at most this ceiling of states, this K and at most this many rules: a rule
+   has each state hold at most 5 tags more. The arguments are those of nedzsuka_work_entries; outside the bounds it is 0. As many
+   numbers are enough for the loaded table. */
+static inline size_t nedzsuka_table_bytes(uint64_t ceiling, uint64_t tags, uint64_t rules)
 {
     if (nedzsuka_work_entries(ceiling, tags, rules) == 0)
         return 0;

@@ -5,6 +5,7 @@ use Rattle.answers.specs.declared.Refusal.{Refusal}
 use Rattle.answers.specs.declared.Refusal.the-variants.{AtByte, AtRule, Bare}
 use Rattle.answers.specs.declared.RunAnswer.{RunAnswer}
 use Rattle.answers.specs.declared.CompileAnswer.{CompileAnswer}
+use Rattle.answers.specs.declared.LoadAnswer.{LoadAnswer}
 
 abbrev pub refusal : {A : Type 0} → Refusal → Outcome A
 refusal (AtByte number at) = refused number (byte at)
@@ -20,3 +21,8 @@ runOutcome (RunAnswer.Refused r) = refusal r
 abbrev pub compileOutcome : CompileAnswer → Outcome ℕ
 compileOutcome (CompileAnswer.Table n) = result n
 compileOutcome (CompileAnswer.Refused r) = refusal r
+
+-- of loading a table: how many numbers were written
+abbrev pub loadOutcome : LoadAnswer → Outcome ℕ
+loadOutcome (LoadAnswer.Loaded n) = result n
+loadOutcome (LoadAnswer.Refused r) = refusal r

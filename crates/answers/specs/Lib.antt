@@ -1,3 +1,4 @@
 -- Outcomes of calls.
 pub mod Outcome
+pub mod Slice
 pub mod Answer

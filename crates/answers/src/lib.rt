@@ -13,6 +13,12 @@ pub enum RunAnswer {
     Refused(Refusal),
 }
 
+// Of loading a table: how many numbers were written.
+pub enum LoadAnswer {
+    Loaded(usize),
+    Refused(Refusal),
+}
+
 // Of compile: the number of bytes of the table.
 pub enum CompileAnswer {
     Table(usize),

@@ -1,19 +1,28 @@
--- What a book's refusal is: a number from 1 to 7, naming a byte.
-use Prim.Native.Nat.{ℕ, suc, _≤_}
+-- What a book's refusal is: a number from 1 to 7, naming a byte that no valid book's end lies before.
+use Prim.Native.Nat.{ℕ, suc, _+_, _*_, _≤_, _<_}
 use native.Mathlib.Omega.{arith}
+use mathlib.Core.Path.{_≡_, refl}
 use mathlib.Core.Bool.{Bool, true, false, not, _&&_}
 use mathlib.Core.List.{List, [], _∷_}
+use borrow.Author.Tests.{leb-true}
 use lib.Dec.{eqb, leb, ltb}
-use lib.ListN.{length, getD}
+use lib.ListN.{length, getD, length-append}
 use Rattle.limits.specs.Limits.{fewest-tags, most-tags, most-rules, longest-pattern}
 use Rattle.answers.specs.Outcome.{Outcome, result, refused, nothing, byte, rule, andThen, provided}
 use Rattle.cascades.specs.Rule.{Rule, Cascade}
 use Rattle.books.specs.Read.{Stage, opening, size, command, place, new-tag, pattern-tag, ended, closing, nextTag, nextRule, commandStep, opened, longer, step, readFrom, read}
 
+-- the bytes of a rule, and of a book, at most
+abbrev rule-bytes : ℕ
+rule-bytes = 3 + 2 * longest-pattern
+
+abbrev pub longest-book : ℕ
+longest-book = 2 + most-rules * rule-bytes + 1
+
 abbrev pub BookRefusal : Outcome Cascade → Type 0
 BookRefusal (result c) = Unit {0}
 BookRefusal (refused n nothing) = ⊥
-BookRefusal (refused n (byte b)) = (1 ≤ n) × (n ≤ 7)
+BookRefusal (refused n (byte b)) = (1 ≤ n) × (n ≤ 7) × (b ≤ longest-book)
 BookRefusal (refused n (rule i)) = ⊥
 
 -- a step's refusal is one of them
@@ -64,20 +73,93 @@ small-step (new-tag k rs p) b = small-provided 4 (ltb b k) (result (command k (o
 small-step (pattern-tag k r rs) b = small-provided 4 (ltb b k) (result (command k (longer r b ∷ rs))) tt (omega arith) (omega arith)
 small-step (ended k rs) b = (omega arith, omega arith)
 
-refusal-from : (s : Stage) (at : ℕ) (bs : List ℕ) → BookRefusal (readFrom s at bs)
-refusal-from opening at [] = (omega arith, omega arith)
-refusal-from size at [] = (omega arith, omega arith)
-refusal-from (command k rs) at [] = (omega arith, omega arith)
-refusal-from (place k rs) at [] = (omega arith, omega arith)
-refusal-from (new-tag k rs p) at [] = (omega arith, omega arith)
-refusal-from (pattern-tag k r rs) at [] = (omega arith, omega arith)
-refusal-from (ended k rs) at [] = tt
-refusal-from s at (b ∷ bs) = by (step s b) (small-step s b) (λ s'. refusal-from s' (suc at) bs)
+-- where the byte `at` is next: the rules before the last one have at most so many bytes each
+abbrev Reached : Stage → ℕ → Type 0
+Reached opening at = at ≡ 0
+Reached size at = at ≡ 1
+Reached (command k []) at = at ≡ 2
+Reached (command k (r ∷ rs)) at = (length rs < most-rules) × (length (r .pattern) ≤ longest-pattern) × (at ≤ 5 + rule-bytes * length rs + 2 * length (r .pattern))
+Reached (place k rs) at = (length rs < most-rules) × (at ≤ 3 + rule-bytes * length rs)
+Reached (new-tag k rs p) at = (length rs < most-rules) × (at ≤ 4 + rule-bytes * length rs)
+Reached (pattern-tag k r rs) at = (length rs < most-rules) × (length (r .pattern) < longest-pattern) × (at ≤ 6 + rule-bytes * length rs + 2 * length (r .pattern))
+Reached (ended k rs) at = at ≤ longest-book
+
+abbrev ReachedBy : Outcome Stage → ℕ → Type 0
+ReachedBy (result s) at = Reached s at
+ReachedBy (refused n p) at = Unit {0}
+
+reached-provided : (n : ℕ) (t : Bool) (o : Outcome Stage) (at : ℕ) → (t ≡ true → ReachedBy o at) → ReachedBy (provided n t o) at
+reached-provided n true o at h = h refl
+reached-provided n false o at h = tt
+
+reached-then : {A : Type 0} (o : Outcome A) (f : A → Outcome Stage) (at : ℕ) → ((x : A) → ReachedBy (f x) at) → ReachedBy (andThen o f) at
+reached-then (result x) f at g = g x
+reached-then (refused n p) f at g = tt
+
+reached-few : (s : Stage) (at : ℕ) → Reached s at → at ≤ longest-book
+reached-few opening at h = omega arith
+reached-few size at h = omega arith
+reached-few (command k []) at h = omega arith
+reached-few (command k (r ∷ rs)) at h = omega (arith, h .0, h .1, h .2)
+reached-few (place k rs) at h = omega (arith, h .0, h .1)
+reached-few (new-tag k rs p) at h = omega (arith, h .0, h .1)
+reached-few (pattern-tag k r rs) at h = omega (arith, h .0, h .1, h .2)
+reached-few (ended k rs) at h = h
+
+reached-command : (k : ℕ) (rs : List Rule) (b at : ℕ) → Reached (command k rs) at → ReachedBy (commandStep k rs b) (suc at)
+reached-command k rs b at h = by (eqb b 0x00) (eqb b 0x21) (eqb b 0x22)
   where
-    by : (o : Outcome Stage) → Small o → ((s' : Stage) → BookRefusal (readFrom s' (suc at) bs))
+    next-rule : (rs : List Rule) → Reached (command k rs) at → length rs < most-rules → Reached (place k rs) (suc at)
+    next-rule [] h l = (l, omega arith)
+    next-rule (r ∷ rs) h l = (l, omega (arith, h .1, h .2))
+
+    next-tag : (rs : List Rule) → Reached (command k rs) at → ReachedBy (nextTag k rs) (suc at)
+    next-tag [] h = tt
+    next-tag (r ∷ rs) h =
+        reached-provided 3 (ltb (length (r .pattern)) longest-pattern) (result (pattern-tag k r rs)) (suc at)
+        (λ e. (h .0, leb-true (suc (length (r .pattern))) longest-pattern e, omega (arith, h .2)))
+
+    by : (x y z : Bool)
+        → ReachedBy
+        (elim x as (λ t. Outcome Stage) [ true ↦ andThen (closing rs) (λ u. result (ended k rs)) | false ↦ elim y as (λ t. Outcome Stage) [ true ↦ andThen (closing rs) (λ u. nextRule k rs) | false ↦ elim z as (λ t. Outcome Stage) [ true ↦ nextTag k rs | false ↦ refused 1 nothing ] ] ])
+        (suc at)
+    by true y z = reached-then (closing rs) (λ u. result (ended k rs)) (suc at) (λ u. end rs h)
+      where
+        end : (rs : List Rule) → Reached (command k rs) at → suc at ≤ longest-book
+        end [] h = omega arith
+        end (r ∷ rs) h = omega (arith, h .0, h .1, h .2)
+    by false true z =
+        reached-then (closing rs) (λ u. nextRule k rs) (suc at)
+        (λ u. reached-provided 7 (ltb (length rs) most-rules) (result (place k rs)) (suc at) (λ e. next-rule rs h (leb-true (suc (length rs)) most-rules e)))
+    by false false true = next-tag rs h
+    by false false false = tt
+
+reached-step : (s : Stage) (b at : ℕ) → Reached s at → ReachedBy (step s b) (suc at)
+reached-step opening b at h = reached-provided 1 (eqb b 0x20) (result size) (suc at) (λ e. omega arith)
+reached-step size b at h = reached-provided 2 (leb fewest-tags b && leb b most-tags) (result (command b [])) (suc at) (λ e. omega arith)
+reached-step (command k rs) b at h = reached-command k rs b at h
+reached-step (place k rs) b at h = (h .0, omega (arith, h .1))
+reached-step (new-tag k rs p) b at h =
+    reached-provided 4 (ltb b k) (result (command k (opened p b ∷ rs))) (suc at) (λ e. (h .0, omega arith, omega (arith, h .1)))
+reached-step (pattern-tag k r rs) b at h =
+    let n = length-append (r .pattern) (b ∷ []) in
+    reached-provided 4 (ltb b k) (result (command k (longer r b ∷ rs))) (suc at) (λ e. (h .0, omega (arith, h .1, n), omega (arith, h .2, n)))
+reached-step (ended k rs) b at h = tt
+
+refusal-from : (s : Stage) (at : ℕ) (bs : List ℕ) → Reached s at → BookRefusal (readFrom s at bs)
+refusal-from opening at [] h = (omega arith, omega arith, reached-few opening at h)
+refusal-from size at [] h = (omega arith, omega arith, reached-few size at h)
+refusal-from (command k rs) at [] h = (omega arith, omega arith, reached-few (command k rs) at h)
+refusal-from (place k rs) at [] h = (omega arith, omega arith, reached-few (place k rs) at h)
+refusal-from (new-tag k rs p) at [] h = (omega arith, omega arith, reached-few (new-tag k rs p) at h)
+refusal-from (pattern-tag k r rs) at [] h = (omega arith, omega arith, reached-few (pattern-tag k r rs) at h)
+refusal-from (ended k rs) at [] h = tt
+refusal-from s at (b ∷ bs) h = by (step s b) (small-step s b) (reached-step s b at h) (λ s' f. refusal-from s' (suc at) bs f)
+  where
+    by : (o : Outcome Stage) → Small o → ReachedBy o (suc at) → ((s' : Stage) → Reached s' (suc at) → BookRefusal (readFrom s' (suc at) bs))
         → BookRefusal (elim o as (λ x. Outcome Cascade) [ result s' ↦ readFrom s' (suc at) bs | refused m p ↦ refused m (byte at) ])
-    by (result s') h f = f s'
-    by (refused m p) h f = h
+    by (result s') z f g = g s' f
+    by (refused m p) z f g = (z .0, z .1, reached-few s at h)
 
 pub book-refusal : (bytes : List ℕ) → BookRefusal (read bytes)
-book-refusal bytes = refusal-from opening 0 bytes
+book-refusal bytes = refusal-from opening 0 bytes refl

@@ -7,7 +7,7 @@ use borrow.Author.Tests.{le-leb, lt-leb}
 use lib.ListN.{length}
 use lib.Seq.{sets-eq}
 use Rattle.answers.specs.Outcome.{refused, nothing}
-use Rattle.compilation.specs.Compile.{fitting}
+use Rattle.answers.specs.Slice.{fitting}
 use Rattle.workspace.specs.declared.Grid.{Grid}
 use Rattle.workspace.specs.Entries.{FINAL}
 use Rattle.workspace.specs.Cells.{word}

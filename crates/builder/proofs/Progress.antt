@@ -8,6 +8,7 @@ use borrow.Author.Tests.{le-leb, lt-leb}
 use lib.ListN.{length}
 use Rattle.limits.specs.Limits.{longest-pattern}
 use Rattle.answers.specs.Outcome.{Outcome, refused, rule, andThen}
+use Rattle.answers.specs.Slice.{fitting}
 use Rattle.cascades.specs.Rule.{Rule, ValidRule, ValidRules, having}
 use Rattle.cascades.specs.Rewrite.{behavior}
 use Rattle.books.specs.Arrays.{Arrays, ruleAt, rulesDown, rulesOf, cascadeOf}
@@ -17,7 +18,7 @@ use Rattle.transducers.specs.Tabulate.{table}
 use Rattle.minimal.specs.TableOf.{identity, addRule, tableOf}
 use Rattle.minimal.proofs.TableOf.{Good, good, tableOf-append}
 use Rattle.tables.specs.Bytes.{encode}
-use Rattle.compilation.specs.Compile.{withRules, compileCascade, fitting, built}
+use Rattle.compilation.specs.Compile.{withRules, compileCascade, built}
 use Rattle.workspace.specs.declared.Grid.{Grid}
 use Rattle.workspace.specs.Cells.{Sized, Kept, In-rows}
 use Rattle.workspace.specs.Holds.{Holds, Ready, tableAt}

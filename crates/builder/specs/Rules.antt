@@ -4,11 +4,10 @@ use mathlib.Core.Path.{_≡_}
 use mathlib.Core.List.{List}
 use Rattle.limits.specs.Limits.{most-states, most-tags, work-rows, work-depth}
 use Rattle.answers.specs.Outcome.{Outcome}
+use Rattle.answers.specs.Slice.{longOf, written}
 use Rattle.answers.specs.Answer.{compileOutcome}
 use Rattle.answers.specs.declared.CompileAnswer.{CompileAnswer}
-use Rattle.sentences.specs.Run.{written}
 use Rattle.books.specs.Arrays.{Arrays, RulesHeld}
-use Rattle.compilation.specs.Compile.{longOf}
 use Rattle.workspace.specs.declared.Grid.{Grid}
 use Rattle.workspace.specs.Cells.{Sized}
 

@@ -7,6 +7,7 @@ use mathlib.Core.List.{List}
 use borrow.Author.Tests.{le-leb, lt-leb}
 use lib.ListN.{length}
 use Rattle.answers.specs.Outcome.{Outcome, result, refused, nothing, rule, andThen}
+use Rattle.answers.specs.Slice.{fitting}
 use Rattle.cascades.specs.Rule.{Cascade}
 use Rattle.books.specs.Book.{Valid}
 use Rattle.books.specs.Read.{read}
@@ -14,7 +15,7 @@ use Rattle.books.proofs.Encode.{reads-exactly}
 use Rattle.transducers.specs.Table.{Table}
 use Rattle.minimal.specs.TableOf.{tableOf}
 use Rattle.tables.specs.Bytes.{encode}
-use Rattle.compilation.specs.Compile.{fitting, built, compileAnswer}
+use Rattle.compilation.specs.Compile.{built, compileAnswer}
 use Rattle.compilation.specs.Demand.{PartNeedsMore, Shortest, Alike, Premises, SmallestTable, Compiled, Named}
 use Rattle.compilation.proofs.Answer.{Told, fits, exceeds, told, Tested, names-nothing, names-byte, goes-on, test, premises-answer}
 use Rattle.compilation.proofs.Parts.{needs-count, exceeds-shortest, shortest-exceeds, bytes-smallest, whole-few, told-named, told-exceeds, encode-alike, some-made, made}

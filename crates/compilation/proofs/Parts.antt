@@ -11,6 +11,7 @@ use lib.ListN.{length}
 use lib.Seq.{take-length}
 use Rattle.limits.specs.Limits.{longest-pattern, most-states}
 use Rattle.answers.specs.Outcome.{Outcome, result, refused, rule, andThen, provided}
+use Rattle.answers.specs.Slice.{fitting}
 use Rattle.cascades.specs.Rule.{Rule, Cascade, having, leading}
 use Rattle.books.specs.Book.{Valid}
 use Rattle.books.specs.Read.{read}
@@ -21,7 +22,7 @@ use Rattle.tables.specs.Bytes.{encode}
 use Rattle.tables.specs.Decode.{Decoded, decode}
 use Rattle.tables.proofs.Theorem.{encoded}
 use Rattle.tables.proofs.Words.{number-bytes}
-use Rattle.compilation.specs.Compile.{fitting, built, compileAnswer}
+use Rattle.compilation.specs.Compile.{built, compileAnswer}
 use Rattle.compilation.specs.Demand.{NeedsMore, PartNeedsMore, Shortest, Alike, Premises, SmallestTable}
 use Rattle.compilation.proofs.Answer.{Few, Exceeds, Told, fits, exceeds, told, table-valid, Tested, names-nothing, names-byte, goes-on, test}
 

@@ -2,11 +2,12 @@
 -- `bookRun` and `tableRun` are what the two runs answer and write.
 use Prim.Native.Nat.{ℕ}
 use native.Mathlib.Omega.{arith}
-use mathlib.Core.Path.{_≡_, refl, sym, ap, _∙_}
+use mathlib.Core.Path.{_≡_, sym, ap, _∙_}
 use mathlib.Core.Logic.{_↔_}
 use mathlib.Core.List.{List}
 use Rattle.words.specs.Word.{Below}
-use Rattle.answers.specs.Outcome.{Outcome, result, refused, andThen}
+use Rattle.answers.specs.Outcome.{result}
+use Rattle.answers.proofs.Outcome.{went}
 use Rattle.sentences.specs.Run.{run}
 use Rattle.sentences.proofs.Run.{run-accepts, accepted-run, run-same}
 use Rattle.cascades.specs.Rewrite.{behavior}
@@ -22,11 +23,6 @@ use Rattle.compilation.specs.Compile.{compileAnswer}
 use Rattle.compilation.specs.Demand.{BookMakes, TableMakes}
 use Rattle.compilation.proofs.Demand.{compiled}
 
--- a run goes on only with what was read
-then-result : {A B : Type 0} (o : Outcome A) (f : A → Outcome B) (b : B) → andThen o f ≡ result b → (a : A) × (o ≡ result a) × (f a ≡ result b)
-then-result (result a) f b e = (a, refl, e)
-then-result (refused n p) f b e = let z : _≡_ {A = ℕ} 0 1 = cc in absurd (omega arith)
-
 module _ (sentence : List ℕ) (room : ℕ) (made : List ℕ) where
   -- a book's run gives a result exactly if the book is valid and the sentence not refused, and it is what the rules leave
   pub book-makes : (book : List ℕ) → (bookRun book sentence room ≡ result made) ↔ BookMakes book sentence room made
@@ -34,10 +30,10 @@ module _ (sentence : List ℕ) (room : ℕ) (made : List ℕ) where
     where
       to : bookRun book sentence room ≡ result made → BookMakes book sentence room made
       to e =
-          let t = then-result (read book) (λ b. run (b .tags) sentence room (behavior b sentence)) made e in
-          let c = t .0 in
-          let a = run-accepts (c .tags) sentence room (behavior c sentence) made (t .2) in
-          record { cascade = c; reads = t .1; accepted = a .0; made-is = a .1 }
+          let t = went (read book) (λ b. run (b .tags) sentence room (behavior b sentence)) made e in
+          let c = t .first in
+          let a = run-accepts (c .tags) sentence room (behavior c sentence) made (t .then) in
+          record { cascade = c; reads = t .read; accepted = a .0; made-is = a .1 }
 
       from : BookMakes book sentence room made → bookRun book sentence room ≡ result made
       from h =
@@ -52,10 +48,10 @@ module _ (sentence : List ℕ) (room : ℕ) (made : List ℕ) where
     where
       to : tableRun bytes sentence room ≡ result made → TableMakes bytes sentence room made
       to e =
-          let t = then-result (decode bytes) (λ d. run (d .tags) sentence room (puts (shape (d .table)) 0 sentence)) made e in
-          let d = t .0 in
-          let a = run-accepts (d .tags) sentence room (puts (shape (d .table)) 0 sentence) made (t .2) in
-          record { decoded = d; decodes = t .1; accepted = a .0; made-is = a .1 }
+          let t = went (decode bytes) (λ d. run (d .tags) sentence room (puts (shape (d .table)) 0 sentence)) made e in
+          let d = t .first in
+          let a = run-accepts (d .tags) sentence room (puts (shape (d .table)) 0 sentence) made (t .then) in
+          record { decoded = d; decodes = t .read; accepted = a .0; made-is = a .1 }
 
       from : TableMakes bytes sentence room made → tableRun bytes sentence room ≡ result made
       from h =

@@ -7,6 +7,7 @@ use lib.Dec.{leb}
 use lib.ListN.{length}
 use Rattle.limits.specs.Limits.{most-states, work-entries}
 use Rattle.answers.specs.Outcome.{Outcome, result, refused, rule, andThen, provided}
+use Rattle.answers.specs.Slice.{fitting}
 use Rattle.cascades.specs.Rule.{Rule, Cascade}
 use Rattle.books.specs.Read.{read}
 use Rattle.transducers.specs.Table.{Table}
@@ -37,18 +38,9 @@ withRules k n i t (r ∷ rs) =
 abbrev pub compileCascade : ℕ → Cascade → Outcome Table
 compileCascade n c = withRules (c .tags) n 0 (table (c .tags) identity) (c .rules)
 
--- "11: output slice shorter than the result"
-abbrev pub fitting : ℕ → List ℕ → Outcome (List ℕ)
-fitting room bytes = provided 11 (leb (length bytes) room) (result bytes)
-
 -- what becomes of a cascade: 10, 11 or the bytes of its table
 abbrev pub built : ℕ → ℕ → Cascade → Outcome (List ℕ)
 built n room c = andThen (compileCascade n c) (λ t. fitting room (encode (c .tags) t))
 
 abbrev pub compileAnswer : List ℕ → ℕ → ℕ → ℕ → Outcome (List ℕ)
 compileAnswer book n work room = andThen (tested book n work) (built n room)
-
--- the number of the bytes, which is what the call answers
-abbrev pub longOf : Outcome (List ℕ) → Outcome ℕ
-longOf (result bytes) = result (length bytes)
-longOf (refused n p) = refused n p

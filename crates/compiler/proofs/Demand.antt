@@ -6,12 +6,13 @@ use mathlib.Core.Path.{_≡_, refl, sym, ap, _∙_}
 use mathlib.Core.Logic.{_↔_}
 use mathlib.Core.List.{List, _++_}
 use lib.ListN.{length, take, drop}
-use lib.Seq.{take-at}
 use Rattle.answers.specs.Outcome.{Outcome, result, refused, nothing, rule}
+use Rattle.answers.specs.Slice.{longOf, written}
+use Rattle.answers.proofs.Slice.{front-result, long-rule}
 use Rattle.answers.specs.Answer.{runOutcome}
 use Rattle.answers.specs.declared.Refusal.the-variants.{AtByte, AtRule, Bare}
 use Rattle.answers.specs.declared.RunAnswer.{RunAnswer}
-use Rattle.sentences.specs.Run.{changed, written, Ran}
+use Rattle.sentences.specs.Run.{changed, Ran}
 use Rattle.cascades.specs.Rule.{Cascade}
 use Rattle.books.specs.Read.{read}
 use Rattle.tagger.specs.Run.{bookRun}
@@ -21,7 +22,6 @@ use Rattle.compilation.specs.Demand.{PartNeedsMore, Shortest, Alike, Premises, 
 use Rattle.compilation.proofs.Demand as demand
 use Rattle.compilation.proofs.Runs as runs
 use Rattle.answers.specs.Answer.{compileOutcome}
-use Rattle.compilation.specs.Compile.{longOf}
 use Rattle.answers.specs.declared.CompileAnswer.{CompileAnswer}
 use Rattle.answers.specs.declared.CompileAnswer.the-variants.{Table, Refused}
 
@@ -49,17 +49,6 @@ outcome-bare j (Table s) e = let z : _≡_ {A = ℕ} 0 1 = cc in absurd (omega a
 outcome-bare j (Refused (AtByte k p)) e = let z : _≡_ {A = ℕ} 0 1 = cc in absurd (omega arith)
 outcome-bare j (Refused (AtRule k p)) e = let z : _≡_ {A = ℕ} 0 1 = cc in absurd (omega arith)
 outcome-bare j (Refused (Bare k)) e = cc
-
--- a result stands at the front of the output slice
-pub front-result : (s : ℕ) (before after : List ℕ) (o : Outcome (List ℕ)) → result s ≡ longOf o → after ≡ written o before → o ≡ result (take s after)
-front-result s before after (result bytes) e w =
-    let long : length bytes ≡ s = cc in
-    ap result (sym (ap (take s) w ∙ take-at bytes (drop (length bytes) before) s long))
-front-result s before after (refused j p) e w = let z : _≡_ {A = ℕ} 0 1 = cc in absurd (omega arith)
-
-pub long-rule : (j i : ℕ) (o : Outcome (List ℕ)) → refused j (rule i) ≡ longOf o → o ≡ refused j (rule i)
-long-rule j i (result bytes) e = let z : _≡_ {A = ℕ} 0 1 = cc in absurd (omega arith)
-long-rule j i (refused k p) e = cc
 
 -- ---- the clauses
 

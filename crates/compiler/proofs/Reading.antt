@@ -12,10 +12,10 @@ use lib.ListN.{length, drop, getD, replicate, length-drop}
 use lib.Seq.{ext-getD, getD-drop}
 use Rattle.limits.specs.Limits.{most-states, work-rows, work-depth, work-entries}
 use Rattle.answers.specs.Outcome.{Place, Outcome, result, refused, nothing, andThen, provided}
+use Rattle.answers.specs.Slice.{longOf, written}
 use Rattle.answers.specs.Answer.{refusal}
 use Rattle.answers.specs.declared.Refusal.{Refusal}
 use Rattle.answers.specs.declared.Refusal.the-variants.{AtByte, AtRule, Bare}
-use Rattle.sentences.specs.Run.{written}
 use Rattle.cascades.specs.Rule.{Cascade}
 use Rattle.books.specs.Arrays.{Arrays, cascadeOf}
 use Rattle.books.specs.Read.{read}
@@ -29,7 +29,6 @@ use Rattle.workspace.specs.declared.Grid.{Grid}
 use Rattle.workspace.specs.Cells.{ix, at, Kept, In-rows}
 use Rattle.workspace.proofs.Places.{ix-below}
 use Rattle.answers.specs.Answer.{compileOutcome}
-use Rattle.compilation.specs.Compile.{longOf}
 use Rattle.compiler.specs.Answer.{worked}
 use Rattle.builder.specs.Rules.{Gave, Readable, Compilable}
 use Rattle.compiler.specs.Ended.{Ended}

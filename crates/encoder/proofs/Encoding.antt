@@ -2,12 +2,12 @@
 use Prim.Native.Nat.{ℕ, zero, suc, _+_, _*_, _-_, _/_, _%_, _≤_, _<_}
 use native.Mathlib.Omega.{arith}
 use native.Mathlib.Numerals.{add-one, add-two, add-three}
-use native.Mathlib.Nat.{add-zero}
 use mathlib.Core.Path.{_≡_, refl, sym, ap, _∙_, subst}
 use mathlib.Core.List.{List, [], _∷_, _++_, append-assoc, append-nil}
 use lib.ListN.{length, getD, set, take, length-append}
-use lib.Seq.{sets, take-suc, take-all}
+use lib.Seq.{take-suc, take-all}
 use Rattle.words.proofs.Word.{below-at}
+use Rattle.words.proofs.Regions.{sets-more}
 use Rattle.transducers.specs.Tabulate.{tabulate}
 use Rattle.transducers.proofs.Tabulate.{length-tabulate}
 use Rattle.tables.specs.Bytes.{tagged, joined, stepBytes, rowBytes, encode}
@@ -16,12 +16,6 @@ use Rattle.workspace.specs.Entries.{OUTPUT, FINAL}
 use Rattle.workspace.specs.Cells.{at, word, Inner, In, Got}
 use Rattle.workspace.proofs.Words.{word-length, word-at}
 use Rattle.encoder.specs.Encoding.{BytesWritten, stepIn, stepsIn, rowIn, rowsIn, Bytes}
-
-pub sets-more : (l : List ℕ) (i : ℕ) (xs ys : List ℕ) → sets l i (xs ++ ys) ≡ sets (sets l i xs) (i + length xs) ys
-sets-more l i [] ys = ap (λ (n : ℕ). sets l n ys) (sym (add-zero i))
-sets-more l i (x ∷ xs) ys =
-    let e : suc i + length xs ≡ i + suc (length xs) = omega arith in
-    sets-more (set l i x) (suc i) xs ys ∙ ap (λ (n : ℕ). sets (sets (set l i x) (suc i) xs) n ys) e
 
 -- what is written after what was written
 pub wrote-then : (l m o : List ℕ) (i j k : ℕ) (xs ys : List ℕ) → BytesWritten l m i xs j → BytesWritten m o j ys k → BytesWritten l o i (xs ++ ys) k

@@ -8,7 +8,9 @@ use mathlib.Core.List.{List, _++_}
 use lib.ListN.{length, take, drop}
 use Rattle.words.specs.Word.{Below, differences}
 use Rattle.answers.specs.Outcome.{Outcome, result, refused, nothing, byte, rule}
-use Rattle.sentences.specs.Run.{changed, written}
+use Rattle.answers.specs.Slice.{longOf, written}
+use Rattle.answers.proofs.Slice.{front-result, long-rule}
+use Rattle.sentences.specs.Run.{changed}
 use Rattle.cascades.specs.Rule.{Cascade}
 use Rattle.books.specs.Read.{read}
 use Rattle.tagger.specs.Run.{bookRun}
@@ -17,8 +19,6 @@ use Rattle.compilation.specs.Compile.{compileAnswer}
 use Rattle.compilation.specs.Demand.{PartNeedsMore, Shortest, Alike, Premises, SmallestTable, Compiled, Named, BookMakes, TableMakes}
 use Rattle.compilation.proofs.Demand as demand
 use Rattle.compilation.proofs.Runs as runs
-use Rattle.compilation.specs.Compile.{longOf}
-use Rattle.compiler.proofs.Demand.{front-result, long-rule}
 use Rattle.packing.specs.Packed.{packed, taken, unpacked, handed, Legible}
 use Rattle.packing.proofs.Number.{unpacked-packed}
 use Rattle.nedzsuka.proofs.Legible.{legible-book, legible-table, legible-compile}
@@ -28,7 +28,7 @@ pub record CompileCall (book : List ℕ) (n : ℕ) (work before after : List ℕ
   pub answered : number ≡ packed (longOf (compileAnswer book n (length work) (length before)))
   pub wrote : after ≡ written (compileAnswer book n (length work) (length before)) before
 
--- and those of nedzsuka_run_book and nedzsuka_run_table, where the run has this outcome
+-- and those of nedzsuka_run_book, nedzsuka_run_table and nedzsuka_run_loaded, where the run has this outcome
 pub record RunCall (outcome : Outcome (List ℕ)) (sentence before after : List ℕ) (number : ℕ) : Type 0 where
   pub answered : number ≡ packed (changed sentence outcome)
   pub wrote : after ≡ written outcome before
@@ -46,7 +46,7 @@ module _ (o : Outcome ℕ) (legible : Legible o) (number : ℕ) (answered : numb
   handed-result (refused m (byte b)) u e = let z : _≡_ {A = ℕ} 0 1 = cc in absurd (omega arith)
   handed-result (refused m (rule i)) u e = let z : _≡_ {A = ℕ} 0 1 = cc in absurd (omega arith)
 
-  means-result : number % 256 ≡ 0 → o ≡ result (number / 256)
+  pub means-result : number % 256 ≡ 0 → o ≡ result (number / 256)
   means-result e = handed-result o (number / 256) (sym (ap (λ (x : ℕ). taken x (number / 256)) e) ∙ means)
 
   means-rule : (i : ℕ) → number ≡ i * 256 + 10 → o ≡ refused 10 (rule i)
@@ -69,7 +69,7 @@ module _ (o : Outcome ℕ) (legible : Legible o) (number : ℕ) (answered : numb
       by (refused m (rule j)) l (suc i) e = sym e
 
 -- a refusal's number has lower bits that are not 0, and what is refused writes nothing
-refused-writes : (o : Outcome (List ℕ)) (before : List ℕ) (value : List ℕ → ℕ) (number : ℕ)
+pub refused-writes : (o : Outcome (List ℕ)) (before : List ℕ) (value : List ℕ → ℕ) (number : ℕ)
     → ((made : List ℕ) → o ≡ result made → number ≡ value made * 256 + 0)
     → (number % 256 ≡ 0 → ⊥) → written o before ≡ before
 refused-writes (result made) before value number e h = absurd (h (omega (arith, e made refl)))

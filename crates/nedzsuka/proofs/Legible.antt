@@ -1,33 +1,54 @@
--- Every outcome of the three calls is legible: a number for C can tell it.
+-- Every outcome of the calls is legible: a number for C can tell it.
 use Prim.Native.Nat.{ℕ, suc, _^_, _≤_, _<_}
 use native.Mathlib.Omega.{arith}
 use mathlib.Core.Path.{_≡_, refl, sym, subst}
-use mathlib.Core.Bool.{Bool, true, false}
+use mathlib.Core.Bool.{Bool, true, false, _&&_}
 use mathlib.Core.List.{List, [], _∷_}
-use lib.Dec.{eqb, leb}
-use lib.ListN.{length}
-use Rattle.words.specs.Word.{differences}
+use borrow.Author.Tests.{leb-true}
+use lib.Dec.{eqb, leb, ltb}
+use lib.ListN.{length, getD}
+use Rattle.limits.specs.Limits.{fewest-tags, most-tags, longest-sentence}
+use Rattle.words.specs.Word.{Below, differences}
 use Rattle.answers.specs.Outcome.{Outcome, result, refused, nothing, byte, rule, andThen, provided}
-use Rattle.sentences.specs.Run.{run, changed}
+use Rattle.answers.specs.Slice.{fitting, longOf}
+use Rattle.sentences.specs.Run.{highest, run, changed}
 use Rattle.sentences.proofs.Run.{RunEnds, too-long, high-tag, no-room, made-of, run-ends}
 use Rattle.cascades.specs.Rule.{Cascade}
 use Rattle.cascades.specs.Rewrite.{behavior}
 use Rattle.books.specs.Book.{Valid}
 use Rattle.books.specs.Read.{read}
+use Rattle.books.specs.Answer.{Sizes, sizes, bookOutcome}
+use Rattle.books.specs.declared.BookAnswer.{BookAnswer}
 use Rattle.books.proofs.Refusal.{BookRefusal, book-refusal}
+use Rattle.books.proofs.Encode.{reads-exactly}
 use Rattle.tagger.specs.Run.{bookRun}
 use Rattle.transducers.specs.Transducer.{puts}
 use Rattle.transducers.specs.Table.{Table, shape}
 use Rattle.minimal.specs.TableOf.{tableOf}
 use Rattle.tables.specs.Bytes.{encode}
 use Rattle.tables.specs.Decode.{Decoded, decode}
-use Rattle.tables.specs.Run.{tableRun}
+use Rattle.tables.specs.Run.{Size, sizeOf, tableRun}
+use Rattle.tables.proofs.Theorem.{decoded}
 use Rattle.tables.proofs.Outcomes.{Read, gave, refuses, read-decode, valid-length}
-use Rattle.compilation.specs.Compile.{fitting, built, compileAnswer}
+use Rattle.decoder.specs.Answer.{tableOutcome}
+use Rattle.decoder.specs.declared.TableAnswer.{TableAnswer}
+use Rattle.loaded.specs.Numbers.{numbers}
+use Rattle.loaded.specs.Run.{way, sound, loadedRun, loadAnswer}
+use Rattle.loaded.proofs.Refusal.{way-read}
+use Rattle.loaded.proofs.Count.{numbers-few}
+use Rattle.compilation.specs.Compile.{built, compileAnswer}
 use Rattle.compilation.proofs.Answer.{Told, fits, exceeds, told, table-valid, Tested, names-nothing, names-byte, goes-on, test}
 use Rattle.compilation.proofs.Parts.{whole-few}
-use Rattle.compilation.specs.Compile.{longOf}
-use Rattle.packing.specs.Packed.{Legible}
+use Rattle.packing.specs.Packed.{Legible, LegibleByte}
+use Rattle.nedzsuka.specs.Sizes.{bookSize, bookSizes, tableSize, tableSizes}
+
+-- 12, and what 11 is given for
+malformed-told : Legible (refused 12 nothing)
+malformed-told = (omega arith, omega arith, λ e. omega arith)
+
+legible-fitting : (made : List ℕ) → length made < 2 ^ 56 → (t : Bool) → Legible (longOf (provided 11 t (result made)))
+legible-fitting made h true = h
+legible-fitting made h false = (omega arith, omega arith, λ e. omega arith)
 
 -- ---- the outcomes of runs
 
@@ -71,7 +92,79 @@ legible-table table s room = by (read-decode table)
     by : Read (decode table) → Legible (changed s (after (decode table)))
     by (gave d e) = subst (λ (x : Outcome Decoded). Legible (changed s (after x))) (sym e) (legible-run (d .tags) s room (puts (shape (d .table)) 0 s))
     by (refuses e) =
-        subst (λ (x : Outcome Decoded). Legible (changed s (after x))) (sym e) ((omega arith, omega arith, λ e. omega arith))
+        subst (λ (x : Outcome Decoded). Legible (changed s (after x))) (sym e) malformed-told
+
+-- a loaded table's run: any numbers
+module _ (ns s : List ℕ) where
+  abbrev k : ℕ
+  k = getD ns 0 0
+
+  abbrev after : Outcome (List ℕ) → Outcome (List ℕ)
+  after o = andThen o (sound k s)
+
+  legible-sound : (made : List ℕ) (a b : Bool) → length s ≤ longest-sentence → Legible (changed s (provided 12 a (provided 12 b (result made))))
+  legible-sound made true true short = omega (arith, differences-most s made, short)
+  legible-sound made true false short = malformed-told
+  legible-sound made false b short = malformed-told
+
+  pub legible-loaded : (room : ℕ) → Legible (changed s (loadedRun ns s room))
+  legible-loaded room =
+      by (leb fewest-tags k && leb k most-tags) (leb (length s) longest-sentence) (ltb (highest s) k) (leb (length s) room) refl (way-read ns k 1 s)
+    where
+      by : (a b c d : Bool) → leb (length s) longest-sentence ≡ b → Read (way ns k 1 s)
+          → Legible (changed s (provided 12 a (andThen (provided 13 b (provided 4 c (result (tt {0})))) (λ x. provided 11 d (after (way ns k 1 s))))))
+      by false b c d e r = malformed-told
+      by true false c d e r = (omega arith, omega arith, λ e. omega arith)
+      by true true false d e r = bare 4 (omega arith) (omega arith)
+      by true true true false e r = (omega arith, omega arith, λ e. omega arith)
+      by true true true true e (gave v f) =
+          subst (λ (o : Outcome (List ℕ)). Legible (changed s (after o))) (sym f)
+          (legible-sound v (eqb (length v) (length s)) (ltb (highest v) k) (leb-true (length s) longest-sentence e))
+      by true true true true e (refuses f) = subst (λ (o : Outcome (List ℕ)). Legible (changed s (after o))) (sym f) malformed-told
+
+-- ---- of the readers, and of loading
+
+pub legible-read-book : (book : List ℕ) → LegibleByte (bookSizes book)
+legible-read-book book = by (read book) refl (book-refusal book)
+  where
+    by : (o : Outcome Cascade) → read book ≡ o → BookRefusal o → LegibleByte (bookSize (sizes o))
+    by (result c) e n = let v = reads-exactly book c .0 e .0 in omega (arith, v .few-tags, v .few-rules)
+    by (refused j nothing) e n = absurd n
+    by (refused j (byte i)) e n = (n .0, omega (arith, n .1), omega (arith, n .2))
+    by (refused j (rule i)) e n = absurd n
+
+pub legible-book-answer : (book : List ℕ) (r : BookAnswer) → bookOutcome r ≡ sizes (read book) → LegibleByte (bookSize (bookOutcome r))
+legible-book-answer book r e = subst (λ (o : Outcome Sizes). LegibleByte (bookSize o)) (sym e) (legible-read-book book)
+
+module _ (table : List ℕ) (bytes : Below 0x100 table) where
+  pub legible-read-table : Legible (tableSizes table)
+  legible-read-table = by (read-decode table)
+    where
+      after : Outcome Decoded → Outcome ℕ
+      after o = tableSize (andThen {A = Decoded} {B = Size} o (λ d. result (record { tags = d .tags; states = length (d .table) })))
+
+      by : Read (decode table) → Legible (after (decode table))
+      by (gave d e) =
+          let v = decoded table d bytes e .0 in
+          subst (λ (x : Outcome Decoded). Legible (after x)) (sym e) (omega (arith, v .tags-most, v .states-most))
+      by (refuses e) = subst (λ (x : Outcome Decoded). Legible (after x)) (sym e) malformed-told
+
+  pub legible-table-answer : (r : TableAnswer) → tableOutcome r ≡ sizeOf table → Legible (tableSize (tableOutcome r))
+  legible-table-answer r e = subst (λ (o : Outcome Size). Legible (tableSize o)) (sym e) legible-read-table
+
+  pub legible-load : (room : ℕ) → Legible (longOf (loadAnswer table room))
+  legible-load room = by (read-decode table)
+    where
+      after : Outcome Decoded → Outcome ℕ
+      after o = longOf (andThen o (λ d. fitting room (numbers (d .tags) (d .table))))
+
+      by : Read (decode table) → Legible (after (decode table))
+      by (gave d e) =
+          let v = decoded table d bytes e .0 in
+          let ns = numbers (d .tags) (d .table) in
+          let few : length ns < 2 ^ 56 = omega (arith, numbers-few (d .tags) (d .table) v, valid-length (d .tags) (d .table) v) in
+          subst (λ (x : Outcome Decoded). Legible (after x)) (sym e) (legible-fitting ns few (leb (length ns) room))
+      by (refuses e) = subst (λ (x : Outcome Decoded). Legible (after x)) (sym e) malformed-told
 
 -- ---- of compile
 
@@ -79,16 +172,12 @@ module _ (book : List ℕ) (n work room : ℕ) where
   pub legible-compile : Legible (longOf (compileAnswer book n work room))
   legible-compile = by (test book n work)
     where
-      fitted : (bytes : List ℕ) → length bytes < 2 ^ 56 → (t : Bool) → Legible (longOf (provided 11 t (result bytes)))
-      fitted bytes h true = h
-      fitted bytes h false = (omega arith, omega arith, λ e. omega arith)
-
       late : (c : Cascade) → Valid c → 1 ≤ n → n ≤ 256 → {o : Outcome Table} → Told n c o
           → Legible (longOf (andThen o (λ t. fitting room (encode (c .tags) t))))
       late c v some most (fits f) =
           let t = tableOf c in
           let few = table-valid c v (omega (arith, whole-few c n some f)) in
-          fitted (encode (c .tags) t) (omega (arith, valid-length (c .tags) t few)) (leb (length (encode (c .tags) t)) room)
+          legible-fitting (encode (c .tags) t) (omega (arith, valid-length (c .tags) t few)) (leb (length (encode (c .tags) t)) room)
       late c v some most (exceeds i x) = (refl, x .some, omega (arith, x .inside, v .few-rules))
 
       by : {o : Outcome Cascade} → Tested book n work o → Legible (longOf (andThen o (built n room)))

@@ -1,3 +1,4 @@
 -- The functions for C: their numbers tell every outcome, and the demands about them.
 pub mod Legible
 pub mod Demand
+pub mod Loaded

@@ -1,15 +1,25 @@
-// The functions for C (document 01, "host door"): compile and both runs, each answering one number. include/nedzsuka.h tells a host what
-// they promise.
+// The functions for C (document 01, "host door"): compile, the three runs, loading and the two readers, each answering one number.
+// include/nedzsuka.h tells a host what they promise.
+use books::BookAnswer;
+use decoder::TableAnswer;
+use packing::pack;
+use packing::pack_byte;
 use packing::pack_compile;
+use packing::pack_load;
+use packing::pack_refusal;
 use packing::pack_run;
+use words::wide;
 ghost use mathlib.Core.Path.{_≡_};
 ghost use lib.ListN.{length};
-ghost use Rattle.sentences.specs.Run.{changed, written};
+ghost use Rattle.answers.specs.Slice.{longOf, written};
+ghost use Rattle.sentences.specs.Run.{changed};
 ghost use Rattle.tagger.specs.Run.{bookRun};
 ghost use Rattle.tables.specs.Run.{tableRun};
-ghost use Rattle.compilation.specs.Compile.{tested, compileAnswer, longOf};
+ghost use Rattle.loaded.specs.Run.{loadedRun, loadAnswer};
+ghost use Rattle.compilation.specs.Compile.{tested, compileAnswer};
 ghost use Rattle.compiler.specs.Answer.{worked};
-ghost use Rattle.packing.specs.Packed.{packed};
+ghost use Rattle.packing.specs.Packed.{packed, packedByte};
+ghost use Rattle.nedzsuka.specs.Sizes.{bookSizes, tableSizes};
 
 // compiler::compile: the number of the table's bytes, or the refusal.
 #[no_mangle]
@@ -45,4 +55,46 @@ pub extern "C" fn nedzsuka_run_table(table: &[u8], sentence: &[u8], out: &mut [u
 {
     let answer = transduction::run_table(table, sentence, out);
     pack_run(answer)
+}
+
+// loader::load_table: how many numbers were written, or the refusal.
+#[no_mangle]
+pub extern "C" fn nedzsuka_load_table(table: &[u8], loaded: &mut [u32]) -> u64
+    ensures answer { λ r. ⌜ r ≡ packed (longOf (loadAnswer (now (table .entry)) (length (now (loaded .entry))))) ⌝ }
+    ensures loaded { λ r. ⌜ now (loaded .exit) ≡ written (loadAnswer (now (table .entry)) (length (now (loaded .entry)))) (now (loaded .entry)) ⌝ }
+{
+    let answer = loader::load_table(table, loaded);
+    pack_load(answer)
+}
+
+// walker::run_loaded: the number of changed tags, or the refusal.
+#[no_mangle]
+pub extern "C" fn nedzsuka_run_loaded(loaded: &[u32], sentence: &[u8], out: &mut [u8]) -> u64
+    ensures answer { λ r. ⌜ r ≡ packed (changed (now (sentence .entry)) (loadedRun (now (loaded .entry)) (now (sentence .entry)) (length (now (out .entry))))) ⌝ }
+    ensures out { λ r. ⌜ now (out .exit) ≡ written (loadedRun (now (loaded .entry)) (now (sentence .entry)) (length (now (out .entry)))) (now (out .entry)) ⌝ }
+{
+    let answer = walker::run_loaded(loaded, sentence, out);
+    pack_run(answer)
+}
+
+// books::read_book: K × 256 + the number of rules, or the refusal with its byte.
+#[no_mangle]
+pub extern "C" fn nedzsuka_read_book(book: &[u8]) -> u64
+    ensures { λ r. ⌜ r ≡ packedByte (bookSizes (now (book .entry))) ⌝ }
+{
+    match books::read_book(book) {
+        BookAnswer::Book { tags, rules } => pack(wide(tags) * 256 + rules, 0),
+        BookAnswer::Refused(given) => pack_byte(given),
+    }
+}
+
+// transduction::read_table: K × 65,536 + S, or 12.
+#[no_mangle]
+pub extern "C" fn nedzsuka_read_table(table: &[u8]) -> u64
+    ensures { λ r. ⌜ r ≡ packed (tableSizes (now (table .entry))) ⌝ }
+{
+    match transduction::read_table(table) {
+        TableAnswer::Table { tags, states } => pack(tags * 65536 + states, 0),
+        TableAnswer::Refused(given) => pack_refusal(given),
+    }
 }

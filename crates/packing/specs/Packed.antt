@@ -14,6 +14,16 @@ abbrev pub packed : Outcome ℕ → ℕ
 packed (result n) = n * 256 + 0
 packed (refused n p) = named p * 256 + n
 
+-- reading a book hands on the byte
+abbrev pub namedByte : Place → ℕ
+namedByte nothing = 0
+namedByte (byte b) = b
+namedByte (rule i) = 0
+
+abbrev pub packedByte : Outcome ℕ → ℕ
+packedByte (result n) = n * 256 + 0
+packedByte (refused n p) = namedByte p * 256 + n
+
 -- how a host takes a number apart, into its lower 8 bits and the rest (nedzsuka_refusal and nedzsuka_value in the header): a result if the
 -- first is 0, else the refusal, with the rule that the rest names
 abbrev pub taken : ℕ → ℕ → Outcome ℕ
@@ -23,6 +33,13 @@ taken (suc n) (suc i) = refused (suc n) (rule (suc i))
 
 abbrev pub unpacked : ℕ → Outcome ℕ
 unpacked number = taken (number % 256) (number / 256)
+
+abbrev pub takenByte : ℕ → ℕ → Outcome ℕ
+takenByte zero u = result u
+takenByte (suc n) b = refused (suc n) (byte b)
+
+abbrev pub unpackedByte : ℕ → Outcome ℕ
+unpackedByte number = takenByte (number % 256) (number / 256)
 
 -- an outcome without the byte that a book's refusal names
 abbrev pub handed : Outcome ℕ → Outcome ℕ
@@ -37,3 +54,10 @@ Legible (result n) = n < 2 ^ 56
 Legible (refused n nothing) = (0 < n) × (n < 256) × (n ≡ 10 → ⊥)
 Legible (refused n (byte b)) = (0 < n) × (n < 256) × (n ≡ 10 → ⊥)
 Legible (refused n (rule i)) = (n ≡ 10) × (0 < i) × (i < 2 ^ 56)
+
+-- every refusal names a byte, and what stands above its number has 56 bits
+abbrev pub LegibleByte : Outcome ℕ → Type 0
+LegibleByte (result n) = n < 2 ^ 56
+LegibleByte (refused n nothing) = ⊥
+LegibleByte (refused n (byte b)) = (0 < n) × (n < 256) × (b < 2 ^ 56)
+LegibleByte (refused n (rule i)) = ⊥

@@ -1,26 +1,40 @@
 // An answer as the one number that a function for C gives (document 01, "host door").
 use answers::CompileAnswer;
+use answers::LoadAnswer;
 use answers::Refusal;
 use answers::RunAnswer;
 ghost use mathlib.Core.Path.{_≡_};
 ghost use Prim.Native.Nat.{_+_, _*_, _^_, _<_};
-ghost use Rattle.answers.specs.Answer.{refusal, runOutcome, compileOutcome};
-ghost use Rattle.packing.specs.Packed.{packed, Legible};
+ghost use Rattle.answers.specs.Answer.{refusal, runOutcome, loadOutcome, compileOutcome};
+ghost use Rattle.packing.specs.Packed.{packed, packedByte, Legible, LegibleByte};
 
-fn pack(upper: usize, number: u8) -> u64
+// A number above a refusal, 0 for none.
+pub fn pack(upper: usize, number: u8) -> u64
     requires { ⌜ upper < 2 ^ 56 ⌝ }
     ensures { λ r. ⌜ r ≡ upper * 256 + number ⌝ }
 {
     upper as u64 * 256 + number as u64
 }
 
-fn pack_refusal(given: Refusal) -> u64
+pub fn pack_refusal(given: Refusal) -> u64
     requires { ⌜ Legible (refusal given) ⌝ }
     ensures { λ r. ⌜ r ≡ packed (refusal given) ⌝ }
 {
     match given {
         Refusal::AtByte { number, .. } => pack(0, number),
         Refusal::AtRule { number, rule } => pack(rule, number),
+        Refusal::Bare { number } => pack(0, number),
+    }
+}
+
+// A refusal with the byte that it names.
+pub fn pack_byte(given: Refusal) -> u64
+    requires { ⌜ LegibleByte (refusal given) ⌝ }
+    ensures { λ r. ⌜ r ≡ packedByte (refusal given) ⌝ }
+{
+    match given {
+        Refusal::AtByte { number, byte } => pack(byte, number),
+        Refusal::AtRule { number, .. } => pack(0, number),
         Refusal::Bare { number } => pack(0, number),
     }
 }
@@ -33,6 +47,17 @@ pub fn pack_run(answer: RunAnswer) -> u64
     match answer {
         RunAnswer::Changed(count) => pack(count, 0),
         RunAnswer::Refused(given) => pack_refusal(given),
+    }
+}
+
+// Of loading a table.
+pub fn pack_load(answer: LoadAnswer) -> u64
+    requires { ⌜ Legible (loadOutcome answer) ⌝ }
+    ensures { λ r. ⌜ r ≡ packed (loadOutcome answer) ⌝ }
+{
+    match answer {
+        LoadAnswer::Loaded(count) => pack(count, 0),
+        LoadAnswer::Refused(given) => pack_refusal(given),
     }
 }
 

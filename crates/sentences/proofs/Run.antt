@@ -17,6 +17,7 @@ use Rattle.answers.specs.Answer.{refusal}
 use Rattle.answers.specs.declared.Refusal.{Refusal}
 use Rattle.answers.specs.declared.Refusal.the-variants.{AtByte, AtRule, Bare}
 use Rattle.answers.specs.declared.RunAnswer.the-variants.{Changed, Refused}
+use Rattle.answers.proofs.Outcome.{refusal-then}
 use Rattle.sentences.specs.Run.{highest, admitted, run, Accepted, Ran}
 use Rattle.sentences.specs.Admission.{admissionOutcome, admission}
 use Rattle.sentences.specs.declared.Admission.{Admission}
@@ -60,11 +61,6 @@ module _ (k : ℕ) (s : List ℕ) where
   pub admitted-all : length s ≤ longest-sentence → highest s < k → result tt ≡ admitted k s
   admitted-all h t = cc (le-leb (length s) longest-sentence h, lt-ltb (highest s) k t)
 
-refusal-then : {A B : Type 0} (x : Refusal) (f : A → Outcome B) → andThen (refusal x) f ≡ refusal x
-refusal-then (AtByte n b) f = refl
-refusal-then (AtRule n i) f = refl
-refusal-then (Bare n) f = refl
-
 module _ (k : ℕ) (s : List ℕ) (room : ℕ) (made : List ℕ) where
   pub run-refused : (r : Admission) (x : Refusal) → r ≡ Admission.Refused x → admissionOutcome r ≡ admitted k s → admission r made ≡ run k s room made
   run-refused r x e a =
@@ -83,7 +79,7 @@ pub highest-below : (k : ℕ) (w : List ℕ) → highest w < k → Below k w
 highest-below k [] h = tt
 highest-below k (a ∷ w) h = (omega arith, highest-below k w (omega arith))
 
-below-highest : (k : ℕ) (w : List ℕ) → 0 < k → Below k w → highest w < k
+pub below-highest : (k : ℕ) (w : List ℕ) → 0 < k → Below k w → highest w < k
 below-highest k [] h b = h
 below-highest k (a ∷ w) h b = omega (arith, b .0, below-highest k w h (b .1))
 

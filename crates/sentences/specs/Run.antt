@@ -1,12 +1,13 @@
 -- A run over a sentence, of a book or of a table.
 use Prim.Native.Nat.{ℕ, _≤_, max}
 use mathlib.Core.Path.{_≡_}
-use mathlib.Core.List.{List, [], _∷_, _++_}
+use mathlib.Core.List.{List, [], _∷_}
 use lib.Dec.{leb, ltb}
-use lib.ListN.{length, drop}
+use lib.ListN.{length}
 use Rattle.limits.specs.Limits.{longest-sentence}
 use Rattle.words.specs.Word.{Below, differences}
 use Rattle.answers.specs.Outcome.{Outcome, result, refused, andThen, provided}
+use Rattle.answers.specs.Slice.{written}
 use Rattle.answers.specs.Answer.{runOutcome}
 use Rattle.answers.specs.declared.RunAnswer.{RunAnswer}
 
@@ -27,11 +28,6 @@ run k sentence room made = andThen (admitted k sentence) (λ x. provided 11 (leb
 abbrev pub changed : List ℕ → Outcome (List ℕ) → Outcome ℕ
 changed sentence (result made) = result (differences sentence made)
 changed sentence (refused n p) = refused n p
-
--- the output slice at exit: "what lies beyond the result keeps its bytes", and "Output slices keep their bytes on every refusal"
-abbrev pub written : Outcome (List ℕ) → List ℕ → List ℕ
-written (result made) out = made ++ drop (length made) out
-written (refused n p) out = out
 
 -- a run has ended: its answer is the number of changed tags or the refusal, and the output slice holds the result or its old bytes
 pub record Ran (outcome : Outcome (List ℕ)) (sentence before after : List ℕ) (answer : RunAnswer) : Type 0 where

@@ -16,7 +16,7 @@ pub enum Admission {
 }
 
 // The highest tag of the word.
-fn highest_of(s: &[u8]) -> u8
+pub fn highest_of(s: &[u8]) -> u8
     ensures { λ r. ⌜ r ≡ highest (now (s .entry)) ⌝ }
 {
     let mut top = 0u8;

@@ -62,7 +62,7 @@ module _ (c k : ℕ) (bs : List ℕ) (at : ℕ) where
     word-last e g = rw two (ap length (word-high c k (getD bs at 0) (getD bs (at + 1) 0) (drop (at + 2) bs) e g))
 
 -- where the tags of a word stand
-tagged-at : (c : ℕ) (w rest : List ℕ) (j : ℕ) → j < length w → getD (tagged c w ++ rest) (1 + 2 * j) 0 ≡ getD w j 0
+pub tagged-at : (c : ℕ) (w rest : List ℕ) (j : ℕ) → j < length w → getD (tagged c w ++ rest) (1 + 2 * j) 0 ≡ getD w j 0
 tagged-at c [] rest j h = absurd (omega arith)
 tagged-at c (a ∷ w) rest zero h = refl
 tagged-at c (a ∷ w) rest (suc j) h =

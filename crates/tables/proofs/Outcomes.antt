@@ -64,11 +64,11 @@ pub data Read {A : Type 0} (o : Outcome A) : Type 0 where
   gave : (v : A) → o ≡ result v → Read o
   refuses : o ≡ malformed → Read o
 
-read-provided : {A : Type 0} (b : Bool) (o : Outcome A) → Read o → Read (provided 12 b o)
+pub read-provided : {A : Type 0} (b : Bool) (o : Outcome A) → Read o → Read (provided 12 b o)
 read-provided true o r = r
 read-provided false o r = refuses refl
 
-read-then : {A B : Type 0} (o : Outcome A) (f : A → Outcome B) → Read o → ((v : A) → Read (f v)) → Read (andThen o f)
+pub read-then : {A B : Type 0} (o : Outcome A) (f : A → Outcome B) → Read o → ((v : A) → Read (f v)) → Read (andThen o f)
 read-then o f (gave v e) g = rw e (g v)
 read-then o f (refuses e) g = refuses (rw e refl)
 

@@ -2,7 +2,6 @@
 use Prim.Native.Nat.{ℕ, zero, suc, _+_, _<_, _≤_}
 use native.Mathlib.Omega.{arith}
 use mathlib.Core.Path.{_≡_, refl, sym, ap, subst, _∙_}
-use mathlib.Core.Bool.{Bool, true, false}
 use mathlib.Core.List.{List, [], _∷_, _++_, append-assoc}
 use borrow.Author.Tests.{eq-eqb, le-leb, lt-ltb, eqb-true, leb-true, ltb-true}
 use lib.Dec.{eqb, leb, ltb}
@@ -11,25 +10,12 @@ use lib.Seq.{drop-append-seam}
 use Rattle.words.specs.Word.{Below}
 use Rattle.words.proofs.Word.{below-drop}
 use Rattle.limits.specs.Limits.{most-held}
-use Rattle.answers.specs.Outcome.{Outcome, result, refused, andThen, provided}
+use Rattle.answers.specs.Outcome.{Outcome, result}
+use Rattle.answers.proofs.Outcome.{passed, went}
 use Rattle.transducers.specs.Table.{Step, Row}
 use Rattle.tables.specs.Bytes.{number, high, low, tagged, joined, stepBytes, rowBytes}
 use Rattle.tables.specs.Decode.{word, many, readStep, readRow}
 use Rattle.tables.proofs.Words.{Begins, begins-append, word-begins, word-below, Stops, word-tagged, number-bytes, high-number, low-number}
-
--- a test that was passed, and a part that was read
-pub passed : {A : Type 0} (b : Bool) (o : Outcome A) (v : A) → provided 12 b o ≡ result v → (b ≡ true) × (o ≡ result v)
-passed true o v e = (refl, e)
-passed false o v e = let z : _≡_ {A = ℕ} 0 1 = cc in absurd (omega arith)
-
-pub record Went {A B : Type 0} (o : Outcome A) (f : A → Outcome B) (b : B) : Type 0 where
-  pub first : A
-  pub read : o ≡ result first
-  pub then : f first ≡ result b
-
-pub went : {A B : Type 0} (o : Outcome A) (f : A → Outcome B) (b : B) → andThen o f ≡ result b → Went o f b
-went (result a) f b e = record { first = a; read = refl; then = e }
-went (refused n p) f b e = let z : _≡_ {A = ℕ} 0 1 = cc in absurd (omega arith)
 
 -- every element has the property
 abbrev pub Every : {A : Type 0} → (A → Type 0) → List A → Type 0
@@ -120,8 +106,8 @@ module _ (k s : ℕ) where
   step-read (c ∷ []) v b e = let z : _≡_ {A = ℕ} 0 1 = cc in absurd (omega arith)
   step-read (c ∷ h ∷ []) v b e = let z : _≡_ {A = ℕ} 0 1 = cc in absurd (omega arith)
   step-read (c ∷ h ∷ l ∷ bs) v b e =
-      let first = passed (eqb c 0x33) _ v e in
-      let second = passed (ltb (number h l) s) _ v (first .1) in
+      let first = passed 12 (eqb c 0x33) _ v e in
+      let second = passed 12 (ltb (number h l) s) _ v (first .1) in
       let made : Step = record { next = number h l; output = word 0x34 k bs } in
       let same : made ≡ v = cc (second .1) in
       rw (← same)
@@ -134,9 +120,9 @@ module _ (k s : ℕ) where
   row-read [] r b e = let z : _≡_ {A = ℕ} 0 1 = cc in absurd (omega arith)
   row-read (c ∷ []) r b e = let z : _≡_ {A = ℕ} 0 1 = cc in absurd (omega arith)
   row-read (c ∷ n ∷ bs) r b e =
-      let first = passed (eqb c 0x31) _ r e in
-      let second = passed (leb n most-held) _ r (first .1) in
-      let third = passed (eqb (length (word 0x32 k bs)) n) _ r (second .1) in
+      let first = passed 12 (eqb c 0x31) _ r e in
+      let second = passed 12 (leb n most-held) _ r (first .1) in
+      let third = passed 12 (eqb (length (word 0x32 k bs)) n) _ r (second .1) in
       let w = word 0x32 k bs in
       let rest = drop (length (tagged 0x32 w)) bs in
       let more = went (many (readStep k s) stepBytes k rest) _ r (third .1) in

@@ -12,12 +12,13 @@ use lib.Seq.{drop-append-seam}
 use Rattle.words.specs.Word.{Below}
 use Rattle.limits.specs.Limits.{fewest-tags, most-tags, most-states}
 use Rattle.answers.specs.Outcome.{result}
+use Rattle.answers.proofs.Outcome.{passed, went}
 use Rattle.transducers.specs.Table.{Step, Row, Table, row, no-step, no-row}
 use Rattle.tables.specs.Valid.{ValidTable}
 use Rattle.tables.specs.Bytes.{number, high, low, joined, rowBytes, encode}
 use Rattle.tables.specs.Decode.{Decoded, many, readRow, readTable, decode, ended, stepsBalanced, rowsBalanced}
 use Rattle.tables.proofs.Words.{Stops, number-bytes, high-number, low-number}
-use Rattle.tables.proofs.Parts.{passed, went, Every, every-at, every-of, GoodStep, GoodRow, many-read, many-encoded, row-read, row-encoded}
+use Rattle.tables.proofs.Parts.{Every, every-at, every-of, GoodStep, GoodRow, many-read, many-encoded, row-read, row-encoded}
 
 never : {A : Type 0} → _≡_ {A = ℕ} 0 1 → A
 never e = absurd (omega arith)
@@ -133,9 +134,9 @@ pub table-read : (k s : ℕ) (bs : List ℕ) (d : Decoded) → Below 0x100 bs �
 table-read k s bs d b e =
     let rows = went (many (readRow k s) rowBytes s bs) _ d e in
     let t = rows .first in
-    let end = passed (ended (drop (length (joined rowBytes t)) bs)) _ d (rows .then) in
-    let start = passed (eqb (length (row t 0 .final)) 0) _ d (end .1) in
-    let balanced = passed (rowsBalanced t t) _ d (start .1) in
+    let end = passed 12 (ended (drop (length (joined rowBytes t)) bs)) _ d (rows .then) in
+    let start = passed 12 (eqb (length (row t 0 .final)) 0) _ d (end .1) in
+    let balanced = passed 12 (rowsBalanced t t) _ d (start .1) in
     let read = many-read (readRow k s) rowBytes (GoodRow k s) (row-read k s) s bs t b (rows .read) in
     let made : Decoded = record { tags = k; table = t } in
     let same : made ≡ d = cc (balanced .1) in
@@ -156,11 +157,11 @@ decoded (c ∷ k ∷ []) d b e = never cc
 decoded (c ∷ k ∷ h ∷ []) d b e = never cc
 decoded (c ∷ k ∷ h ∷ l ∷ bs) d b e =
     let s = number h l in
-    let one = passed (eqb c 0x30) _ d e in
-    let two = passed (leb fewest-tags k) _ d (one .1) in
-    let three = passed (leb k most-tags) _ d (two .1) in
-    let four = passed (leb 1 s) _ d (three .1) in
-    let five = passed (leb s most-states) _ d (four .1) in
+    let one = passed 12 (eqb c 0x30) _ d e in
+    let two = passed 12 (leb fewest-tags k) _ d (one .1) in
+    let three = passed 12 (leb k most-tags) _ d (two .1) in
+    let four = passed 12 (leb 1 s) _ d (three .1) in
+    let five = passed 12 (leb s most-states) _ d (four .1) in
     let r = table-read k s bs d (b .1 .1 .1 .1) (five .1) in
     let t = d .table in (
       rw (r .tags)

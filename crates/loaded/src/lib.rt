@@ -1,0 +1,1 @@
+// The numbers of a loaded table, as definitions and laws.

@@ -1,0 +1,2 @@
+-- Loading a table.
+pub mod Parts

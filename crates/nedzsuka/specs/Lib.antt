@@ -1,0 +1,2 @@
+-- What reading a book or a table answers to C.
+pub mod Sizes

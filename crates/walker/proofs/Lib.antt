@@ -1,0 +1,4 @@
+-- Laws of the walk.
+pub mod Words
+pub mod Turns
+pub mod Runs

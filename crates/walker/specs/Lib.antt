@@ -1,0 +1,2 @@
+-- The run of a loaded table.
+pub mod Walk
