@@ -1,5 +1,6 @@
 /* Times the library beside plain C and prints their ratios, then what the library takes. Books come as lines on standard input: bytes in
-   hexadecimal, a ceiling and a name. Library and plain C do the same work in turns; the best of several rounds counts. */
+   hexadecimal, a ceiling and a name. Library and plain C do the same work in turns. All books are gone through several times, since a shared
+   machine may be slow for seconds on end; the best round counts. */
 #define _DEFAULT_SOURCE
 #include <nedzsuka.h>
 
@@ -15,7 +16,7 @@
 
 enum { LIBRARY, PLAIN, BOTH };
 enum call { COMPILE, RUN_BOOK, RUN_TABLE, LOAD, RUN_LOADED };
-enum { ROUNDS = 31, FRESH_ROUNDS = 5, MOST_TIMES = 100000, MOST_BOOKS = 64, NAME = 48 };
+enum { PASSES = 8, ROUNDS = 6, MOST_TIMES = 100000, MOST_BOOKS = 64, NAME = 48 };
 
 struct workload {
     const char *heading;
@@ -41,16 +42,19 @@ enum { BESIDE = sizeof beside / sizeof *beside, RUNS = sizeof runs / sizeof *run
 
 struct figures {
     char name[NAME];
+    uint8_t book[NEDZSUKA_LONGEST_BOOK];
+    size_t book_len;
+    uint64_t ceiling;
     int states;
     double beside[BESIDE][BOTH], alone[KINDS][LENGTHS][RUNS];
     double fresh, again; /* a compile whose work slice is fresh memory, and the next one */
 };
 
-static uint8_t book[NEDZSUKA_LONGEST_BOOK], table[NEDZSUKA_LONGEST_TABLE], out[BOTH][NEDZSUKA_LONGEST_TABLE];
+static uint8_t table[NEDZSUKA_LONGEST_TABLE], out[BOTH][NEDZSUKA_LONGEST_TABLE];
 static uint32_t loaded[NEDZSUKA_LONGEST_TABLE], loaded_out[BOTH][NEDZSUKA_LONGEST_TABLE];
 static uint16_t *work;
-static size_t book_len, table_len, loaded_len;
-static uint64_t ceiling;
+static size_t table_len, loaded_len;
+static const struct figures *timed; /* the book that is timed, with its table, loaded numbers and sentences */
 static struct sentences sentences;
 
 static double now(void)
@@ -68,10 +72,10 @@ static uint64_t call(int which, const struct workload *load)
 
     switch (load->call) {
     case COMPILE:
-        return (which == LIBRARY ? nedzsuka_compile : plain_compile)(book, book_len, ceiling, work, NEDZSUKA_MOST_WORK, out[which],
-                                                                     sizeof out[which]);
+        return (which == LIBRARY ? nedzsuka_compile : plain_compile)(timed->book, timed->book_len, timed->ceiling, work,
+                                                                     NEDZSUKA_MOST_WORK, out[which], sizeof out[which]);
     case RUN_BOOK:
-        return (which == LIBRARY ? nedzsuka_run_book : plain_run_book)(book, book_len, sentence, tags, out[which], tags);
+        return (which == LIBRARY ? nedzsuka_run_book : plain_run_book)(timed->book, timed->book_len, sentence, tags, out[which], tags);
     case RUN_TABLE:
         return (which == LIBRARY ? nedzsuka_run_table : plain_run_table)(table, table_len, sentence, tags, out[which], tags);
     case LOAD:
@@ -100,6 +104,13 @@ static void agree(const char *name, const struct workload *load)
     }
 }
 
+/* The best round so far; 0 is none. */
+static void keep_best(double *best, double seconds)
+{
+    if (*best == 0 || seconds < *best)
+        *best = seconds;
+}
+
 /* The library, and plain C in turns with it where seconds are for both. */
 static void measure(const struct workload *load, double *seconds, int both)
 {
@@ -109,15 +120,12 @@ static void measure(const struct workload *load, double *seconds, int both)
     call(LIBRARY, load);
     times = (long)(0.01 / (now() - start + 1e-9));
     times = times < 1 ? 1 : times > MOST_TIMES ? MOST_TIMES : times;
-    for (int which = LIBRARY; which < both; which++)
-        seconds[which] = 1e9;
     for (int round = 0; round < ROUNDS; round++)
         for (int which = LIBRARY; which < both; which++) {
             start = now();
             for (long i = 0; i < times; i++)
                 call(which, load);
-            start = (now() - start) / (double)times;
-            seconds[which] = start < seconds[which] ? start : seconds[which];
+            keep_best(&seconds[which], (now() - start) / (double)times);
         }
 }
 
@@ -131,7 +139,6 @@ static void measure_alone(struct figures *f, enum kind kind)
     for (int length = 0; length < LENGTHS; length++)
         for (int i = 0; i < RUNS; i++) {
             struct workload load = {kind == FIRING ? "rules fire" : "no rule fires", runs[i], kind, (enum length)length};
-            f->alone[kind][length][i] = 0;
             if ((f->states == 0 && needs_table(&load)) || !sentences.made[kind])
                 continue;
             agree(f->name, &load);
@@ -142,38 +149,33 @@ static void measure_alone(struct figures *f, enum kind kind)
 /* With a work slice that is as long as needed and was never touched, and again with the same. */
 static void measure_fresh(struct figures *f)
 {
-    uint64_t size = nedzsuka_value(nedzsuka_read_book(book, book_len));
-    size_t entries = nedzsuka_work_entries(ceiling, size / 256, size % 256);
-    double start, seconds[2];
+    uint64_t size = nedzsuka_value(nedzsuka_read_book(f->book, f->book_len));
+    size_t entries = nedzsuka_work_entries(f->ceiling, size / 256, size % 256);
+    uint16_t *fresh = mmap(NULL, entries * sizeof *fresh, PROT_READ | PROT_WRITE, MAP_PRIVATE | MAP_ANONYMOUS, -1, 0);
+    double *best[] = {&f->fresh, &f->again};
 
-    f->fresh = f->again = 1e9;
-    for (int round = 0; round < FRESH_ROUNDS; round++) {
-        uint16_t *fresh = mmap(NULL, entries * sizeof *fresh, PROT_READ | PROT_WRITE, MAP_PRIVATE | MAP_ANONYMOUS, -1, 0);
-        if (fresh == MAP_FAILED) {
-            perror("work slice");
-            exit(2);
-        }
-        for (int i = 0; i < 2; i++) {
-            start = now();
-            nedzsuka_compile(book, book_len, ceiling, fresh, entries, out[LIBRARY], sizeof out[LIBRARY]);
-            seconds[i] = now() - start;
-        }
-        f->fresh = seconds[0] < f->fresh ? seconds[0] : f->fresh;
-        f->again = seconds[1] < f->again ? seconds[1] : f->again;
-        munmap(fresh, entries * sizeof *fresh);
+    if (fresh == MAP_FAILED) {
+        perror("work slice");
+        exit(2);
     }
+    for (int i = 0; i < 2; i++) {
+        double start = now();
+        nedzsuka_compile(f->book, f->book_len, f->ceiling, fresh, entries, out[LIBRARY], sizeof out[LIBRARY]);
+        keep_best(best[i], now() - start);
+    }
+    munmap(fresh, entries * sizeof *fresh);
 }
 
 static void bench(struct figures *f)
 {
-    uint64_t answer = plain_compile(book, book_len, ceiling, work, NEDZSUKA_MOST_WORK, table, sizeof table);
+    uint64_t answer = plain_compile(f->book, f->book_len, f->ceiling, work, NEDZSUKA_MOST_WORK, table, sizeof table);
 
+    timed = f;
     f->states = nedzsuka_refusal(answer) == NEDZSUKA_OK ? table[2] * 256 + table[3] : 0;
     table_len = (size_t)nedzsuka_value(answer);
     loaded_len = (size_t)nedzsuka_value(plain_load_table(table, f->states == 0 ? 0 : table_len, loaded, table_len));
-    make_sentences(book, &sentences);
+    make_sentences(f->book, &sentences);
     for (int i = 0; i < BESIDE; i++) {
-        f->beside[i][LIBRARY] = f->beside[i][PLAIN] = 0;
         if (f->states == 0 && needs_table(&beside[i]))
             continue;
         agree(f->name, &beside[i]);
@@ -189,16 +191,16 @@ static int read_line(struct figures *f)
     static char line[1024], hex[1024];
 
     while (fgets(line, sizeof line, stdin) != NULL) {
-        if (sscanf(line, "%1023s %" SCNu64 " %47[^\n]", hex, &ceiling, f->name) != 3)
+        if (sscanf(line, "%1023s %" SCNu64 " %47[^\n]", hex, &f->ceiling, f->name) != 3)
             continue;
-        book_len = strlen(hex) / 2;
-        for (size_t i = 0; i < book_len && i < sizeof book; i++) {
+        f->book_len = strlen(hex) / 2;
+        for (size_t i = 0; i < f->book_len && i < sizeof f->book; i++) {
             unsigned byte;
             if (sscanf(hex + 2 * i, "%2x", &byte) != 1)
                 exit(2);
-            book[i] = (uint8_t)byte;
+            f->book[i] = (uint8_t)byte;
         }
-        return book_len <= sizeof book;
+        return f->book_len <= sizeof f->book;
     }
     return 0;
 }
@@ -270,7 +272,10 @@ int main(void)
         return 2;
     }
     while (books < MOST_BOOKS && read_line(&figures[books]))
-        bench(&figures[books++]);
+        books++;
+    for (int pass = 0; pass < PASSES; pass++)
+        for (int b = 0; b < books; b++)
+            bench(&figures[b]);
     print_beside(figures, books);
     print_alone(figures, books);
     print_fresh(figures, books);

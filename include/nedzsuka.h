@@ -18,8 +18,9 @@
    - The other slices are only read, the work slice of compile excepted.
    - It allocates nothing and keeps nothing from one call to the next: several threads may call at once, each with output and work
      slices of its own. One loaded table serves several threads, since running it only reads it.
-   - nedzsuka_run_table takes less than 2,000 bytes of the stack if S * (K + 1) is at most 192, some 10,200 if it is at most 1,024, some
-     35,000 if it is at most 4,096, else some 102,500; nedzsuka_compile, nedzsuka_run_book and nedzsuka_read_book take less than 2,000.
+   - Of the stack nedzsuka_run_table, nedzsuka_read_table and nedzsuka_load_table take less than 2,000 bytes if S * (K + 1) is at most
+     192, some 10,400 if it is at most 1,024, some 35,000 if it is at most 4,096, else some 102,500; nedzsuka_run_loaded less than 1,000
+     for a sentence of at most 256 tags, some 2,900 for one of at most 2,048, else some 66,400; the other calls less than 1,200.
 
    What is asked of the caller
    - A pointer reaches as many entries as the length beside it says. It may be null only where that length is 0.

@@ -1,12 +1,17 @@
 -- What the answer and the output slice tell of the outcome.
 use Prim.Native.Nat.{ℕ}
 use native.Mathlib.Omega.{arith}
-use mathlib.Core.Path.{_≡_, sym, ap, _∙_}
+use mathlib.Core.Path.{_≡_, refl, sym, ap, _∙_}
 use mathlib.Core.List.{List}
 use lib.ListN.{length, take, drop}
 use lib.Seq.{take-at}
 use Rattle.answers.specs.Outcome.{Outcome, result, refused, rule}
 use Rattle.answers.specs.Slice.{longOf, written}
+
+-- without a result the slice keeps what it holds
+pub refused-keeps : (o : Outcome (List ℕ)) (before : List ℕ) → ((made : List ℕ) → o ≡ result made → ⊥) → written o before ≡ before
+refused-keeps (result made) before h = absurd (h made refl)
+refused-keeps (refused n p) before h = refl
 
 -- a result stands at the front of the output slice
 pub front-result : (s : ℕ) (before after : List ℕ) (o : Outcome (List ℕ)) → result s ≡ longOf o → after ≡ written o before → o ≡ result (take s after)

@@ -9,7 +9,7 @@ use lib.ListN.{length, take, drop}
 use Rattle.words.specs.Word.{Below, differences}
 use Rattle.answers.specs.Outcome.{Outcome, result, refused, nothing, byte, rule}
 use Rattle.answers.specs.Slice.{longOf, written}
-use Rattle.answers.proofs.Slice.{front-result, long-rule}
+use Rattle.answers.proofs.Slice.{refused-keeps, front-result, long-rule}
 use Rattle.sentences.specs.Run.{changed}
 use Rattle.cascades.specs.Rule.{Cascade}
 use Rattle.books.specs.Read.{read}
@@ -72,8 +72,7 @@ module _ (o : Outcome ℕ) (legible : Legible o) (number : ℕ) (answered : numb
 pub refused-writes : (o : Outcome (List ℕ)) (before : List ℕ) (value : List ℕ → ℕ) (number : ℕ)
     → ((made : List ℕ) → o ≡ result made → number ≡ value made * 256 + 0)
     → (number % 256 ≡ 0 → ⊥) → written o before ≡ before
-refused-writes (result made) before value number e h = absurd (h (omega (arith, e made refl)))
-refused-writes (refused n p) before value number e h = refl
+refused-writes o before value number e h = refused-keeps o before (λ made f. h (omega (arith, e made f)))
 
 -- ---- compile
 

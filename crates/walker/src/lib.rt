@@ -136,7 +136,8 @@ fn run_in(ns: &[u32], k: u8, sentence: &[u8], out: &mut [u8], buf: &mut [u8]) ->
         return RunAnswer::Refused(Refusal::Bare { number: 12 });
     }
     sentences::copy(&buf[..n], out);
-    RunAnswer::Changed(sentences::count_changes(sentence, &buf[..n]))
+    let changes = sentences::count_changes(sentence, &buf[..n]);
+    RunAnswer::Changed(changes)
 }
 
 // A buffer is cleared for each call: short sentences have a short one.
