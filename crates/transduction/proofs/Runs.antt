@@ -27,7 +27,7 @@ use Rattle.tables.proofs.Theorem.{decoded, table-read}
 use Rattle.tables.proofs.Outcomes.{Read, gave, refuses, read-decode}
 use Rattle.tables.proofs.Transduction.{run-length}
 use Rattle.decoder.specs.Answer.{tableOutcome}
-use Rattle.decoder.specs.Index.{Loaded, LoadedIf, HeadRead}
+use Rattle.decoder.specs.Index.{Head, HeadRead, Loaded, LoadedIf}
 use Rattle.decoder.specs.declared.TableAnswer.{TableAnswer}
 use Rattle.transduction.specs.Parts.{Runnable, made}
 
@@ -87,6 +87,11 @@ module _ (bs sentence out : List ℕ) where
             ran-changed outcome sentence out m out' n (g ∙ sym runs)
             (record { counted = c ∙ ap (λ (l : List ℕ). differences sentence l) front; front = rw long whole })
 
+-- a table whose head is not read is not read
+pub size-headless : (bs : List ℕ) (a : TableAnswer) → HeadRead bs a → (r : Refusal) → a ≡ TableAnswer.Refused r → tableOutcome a ≡ sizeOf bs
+size-headless bs (TableAnswer.Refused q) g r e = rw (g .0, g .1) refl
+size-headless bs (TableAnswer.Table k s) g r e = let z : _≡_ {A = ℕ} 0 1 = cc in absurd (omega arith)
+
 -- a table is read exactly if its run over no tags is not refused
 module _ (bs : List ℕ) (bytes : Below 0x100 bs) (room : ℕ) where
   none-runs : (d : Decoded) → decode bs ≡ result d → changed [] (tableRun bs [] room) ≡ result 0
@@ -114,9 +119,8 @@ module _ (bs : List ℕ) (bytes : Below 0x100 bs) (room : ℕ) where
         by (gave d e) g = absurd (refusal-not r 0 (g ∙ none-runs d e))
 
     -- and its head gives its K and S
-    pub size-read : (n : ℕ) → ran ≡ Changed n → (a : TableAnswer) → HeadRead bs a → tableOutcome a ≡ sizeOf bs
-    size-read n c (TableAnswer.Refused r) g = rw (g .0, g .1) refl
-    size-read n c (TableAnswer.Table k s) g = by (read-decode bs) (rw c at h)
+    pub size-read : (n : ℕ) → ran ≡ Changed n → (k s : ℕ) → Head bs k s → tableOutcome (TableAnswer.Table k s) ≡ sizeOf bs
+    size-read n c k s g = by (read-decode bs) (rw c at h)
       where
         by : Read (decode bs) → result n ≡ changed [] (tableRun bs [] room) → result (record { tags = k; states = s }) ≡ sizeOf bs
         by (refuses e) h' =

@@ -177,14 +177,19 @@ pub fn run_table(table: &[u8], sentence: &[u8], out: &mut [u8]) -> RunAnswer
     run_states(table, tags, states, sentence, out)
 }
 
-// Reads a table: its K and S, or 12. No sentence of no tags is refused.
+// Reads a table: its K and S, or 12. No sentence of no tags is refused. `run_table` is left to its callers, so that the compiler makes it a
+// part of a host's call.
 pub fn read_table(table: &[u8]) -> TableAnswer
     ensures { λ r. ⌜ tableOutcome r ≡ sizeOf (now (table .entry)) ⌝ }
 {
+    let got = decoder::read_head(table);
+    let TableAnswer::Table { tags, states } = got else {
+        return got;
+    };
     let mut out = [0u8; 1];
-    let ran = run_table(table, &table[..0], &mut out);
+    let ran = run_beyond(table, tags, states, &table[..0], &mut out);
     if let RunAnswer::Refused(r) = ran {
         return TableAnswer::Refused(r);
     }
-    decoder::read_head(table)
+    TableAnswer::Table { tags, states }
 }

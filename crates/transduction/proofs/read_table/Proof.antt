@@ -2,59 +2,80 @@
 use native.Mathlib.Omega.{arith}
 use borrow.Author.Needs.{needs}
 use Rattle.tables.proofs.Words.{below-of}
-use Rattle.transduction.proofs.Runs.{size-refused, size-read}
+use Rattle.decoder.proofs.Head.{head-of}
+use Rattle.transduction.proofs.Runs.{size-headless, size-refused, size-read}
 use Rattle.transduction.proofs.read_table.Statement.{statement}
 use Rattle.transduction.proofs.read_table.Tie as tie
 use Rattle.transduction.proofs.read_table.Reads as reads
 use Rattle.transduction.proofs.read_table.Lts as lts
 use Rattle.decoder.proofs.read_head.Reads as read-head-reads
-use Rattle.transduction.proofs.run_table.Reads as run-table-reads
-
-slice-aggregate-run-table : tie.Need-slice-aggregate-run-table
-slice-aggregate-run-table c = search needs
-
-slice-aggregate-run-table-2 : tie.Need-slice-aggregate-run-table-2
-slice-aggregate-run-table-2 c = search needs
-
-run-table-requires : tie.Need-run-table-requires
-run-table-requires c κs = search needs
-
-enum-known-ran : tie.Need-enum-known-ran
-enum-known-ran c = search needs
-
-returns : tie.Need-returns
-returns c =
-    let told = c .before .ran .given in
-    let call = c .before .before .before .before in
-    let known = call .before .before .before in
-    let bs = known .before .args .table .now in
-    let bytes = below-of 0x100 bs (λ i. omega (arith, known .shared-slice-known .given i)) in
-    size-refused bs bytes 1 (call .run-table .result) (call .run-table .ensures .answered) (told .0 .0) (told .1)
-
-enum-told : tie.Need-enum-told
-enum-told c = search needs
+use Rattle.transduction.proofs.run_beyond.Reads as run-beyond-reads
 
 read-head-requires : tie.Need-read-head-requires
 read-head-requires c κs = search needs
 
+enum-known-got : tie.Need-enum-known-got
+enum-known-got c = search needs
+
+enum-told : tie.Need-enum-told
+enum-told c = search needs
+
+returns : tie.Need-returns
+returns c =
+    let call = c .before .before in
+    size-headless (call .before .before .args .table .now) (call .read-head .result) (call .read-head .ensures) (c .enum-told .given .0 .0) (c .enum-told .given .1)
+
+slice-aggregate-run-beyond : tie.Need-slice-aggregate-run-beyond
+slice-aggregate-run-beyond c = search needs
+
+slice-aggregate-run-beyond-2 : tie.Need-slice-aggregate-run-beyond-2
+slice-aggregate-run-beyond-2 c = search needs
+
+run-beyond-requires : tie.Need-run-beyond-requires
+run-beyond-requires c κs =
+    let told = c .before .before .before .got .given in
+    let call = c .before .before .before .before .before in
+    head-of (call .before .before .args .table .now) (call .read-head .result) (call .read-head .ensures) (told .0 .0) (told .0 .1 .0) (told .1)
+
+enum-known-ran : tie.Need-enum-known-ran
+enum-known-ran c = search needs
+
 returns-2 : tie.Need-returns-2
 returns-2 c =
-    let told = c .before .enum-told .given in
-    let call = c .before .before .before .before in
-    let known = call .before .before .before in
+    let told = c .before .ran .given in
+    let run = c .before .before .before .before in
+    let known = run .before .before .before .before .before .before .before in
     let bs = known .before .args .table .now in
     let bytes = below-of 0x100 bs (λ i. omega (arith, known .shared-slice-known .given i)) in
-    size-read bs bytes 1 (call .run-table .result) (call .run-table .ensures .answered) (told .0 .0) (told .1) (c .read-head .result) (c .read-head .ensures)
+    size-refused bs bytes 1 (run .run-beyond .result) (run .run-beyond .ensures .answered) (told .0 .0) (told .1)
+
+enum-told-2 : tie.Need-enum-told-2
+enum-told-2 c = search needs
+
+returns-3 : tie.Need-returns-3
+returns-3 c =
+    let told = c .enum-told2 .given in
+    let run = c .before .before .before in
+    let call = run .before .before .before .before .before .before in
+    let known = call .before in
+    let bs = known .before .args .table .now in
+    let bytes = below-of 0x100 bs (λ i. omega (arith, known .shared-slice-known .given i)) in
+    let size = run .before .before .before .before .got .given in
+    size-read bs bytes 1 (run .run-beyond .result) (run .run-beyond .ensures .answered) (told .0 .0) (told .1) (size .0 .0) (size .0 .1 .0)
+    (head-of bs (call .read-head .result) (call .read-head .ensures) (size .0 .0) (size .0 .1 .0) (size .1))
 
 pub read-table-spec : {M : Type 1} → statement M
 read-table-spec =
     tie.close
     (tie.spec
-    slice-aggregate-run-table
-    slice-aggregate-run-table-2
-    run-table-requires
-    enum-known-ran
-    returns
-    enum-told
     read-head-requires
-    returns-2)
+    enum-known-got
+    enum-told
+    returns
+    slice-aggregate-run-beyond
+    slice-aggregate-run-beyond-2
+    run-beyond-requires
+    enum-known-ran
+    returns-2
+    enum-told-2
+    returns-3)
