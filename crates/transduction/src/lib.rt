@@ -177,8 +177,8 @@ pub fn run_table(table: &[u8], sentence: &[u8], out: &mut [u8]) -> RunAnswer
     run_states(table, tags, states, sentence, out)
 }
 
-// Reads a table: its K and S, or 12. No sentence of no tags is refused. `run_table` is left to its callers, so that the compiler makes it a
-// part of a host's call.
+// Reads a table: its K and S, or 12. No sentence of no tags is refused. `run_table` is left to one caller, so that the compiler makes it a part
+// of a host's call.
 pub fn read_table(table: &[u8]) -> TableAnswer
     ensures { λ r. ⌜ tableOutcome r ≡ sizeOf (now (table .entry)) ⌝ }
 {
@@ -187,7 +187,7 @@ pub fn read_table(table: &[u8]) -> TableAnswer
         return got;
     };
     let mut out = [0u8; 1];
-    let ran = run_beyond(table, tags, states, &table[..0], &mut out);
+    let ran = run_states(table, tags, states, &table[..0], &mut out);
     if let RunAnswer::Refused(r) = ran {
         return TableAnswer::Refused(r);
     }

@@ -9,7 +9,7 @@ use Rattle.transduction.proofs.read_table.Tie as tie
 use Rattle.transduction.proofs.read_table.Reads as reads
 use Rattle.transduction.proofs.read_table.Lts as lts
 use Rattle.decoder.proofs.read_head.Reads as read-head-reads
-use Rattle.transduction.proofs.run_beyond.Reads as run-beyond-reads
+use Rattle.transduction.proofs.run_states.Reads as run-states-reads
 
 read-head-requires : tie.Need-read-head-requires
 read-head-requires c κs = search needs
@@ -25,14 +25,14 @@ returns c =
     let call = c .before .before in
     size-headless (call .before .before .args .table .now) (call .read-head .result) (call .read-head .ensures) (c .enum-told .given .0 .0) (c .enum-told .given .1)
 
-slice-aggregate-run-beyond : tie.Need-slice-aggregate-run-beyond
-slice-aggregate-run-beyond c = search needs
+slice-aggregate-run-states : tie.Need-slice-aggregate-run-states
+slice-aggregate-run-states c = search needs
 
-slice-aggregate-run-beyond-2 : tie.Need-slice-aggregate-run-beyond-2
-slice-aggregate-run-beyond-2 c = search needs
+slice-aggregate-run-states-2 : tie.Need-slice-aggregate-run-states-2
+slice-aggregate-run-states-2 c = search needs
 
-run-beyond-requires : tie.Need-run-beyond-requires
-run-beyond-requires c κs =
+run-states-requires : tie.Need-run-states-requires
+run-states-requires c κs =
     let told = c .before .before .before .got .given in
     let call = c .before .before .before .before .before in
     head-of (call .before .before .args .table .now) (call .read-head .result) (call .read-head .ensures) (told .0 .0) (told .0 .1 .0) (told .1)
@@ -47,7 +47,7 @@ returns-2 c =
     let known = run .before .before .before .before .before .before .before in
     let bs = known .before .args .table .now in
     let bytes = below-of 0x100 bs (λ i. omega (arith, known .shared-slice-known .given i)) in
-    size-refused bs bytes 1 (run .run-beyond .result) (run .run-beyond .ensures .answered) (told .0 .0) (told .1)
+    size-refused bs bytes 1 (run .run-states .result) (run .run-states .ensures .answered) (told .0 .0) (told .1)
 
 enum-told-2 : tie.Need-enum-told-2
 enum-told-2 c = search needs
@@ -61,7 +61,7 @@ returns-3 c =
     let bs = known .before .args .table .now in
     let bytes = below-of 0x100 bs (λ i. omega (arith, known .shared-slice-known .given i)) in
     let size = run .before .before .before .before .got .given in
-    size-read bs bytes 1 (run .run-beyond .result) (run .run-beyond .ensures .answered) (told .0 .0) (told .1) (size .0 .0) (size .0 .1 .0)
+    size-read bs bytes 1 (run .run-states .result) (run .run-states .ensures .answered) (told .0 .0) (told .1) (size .0 .0) (size .0 .1 .0)
     (head-of bs (call .read-head .result) (call .read-head .ensures) (size .0 .0) (size .0 .1 .0) (size .1))
 
 pub read-table-spec : {M : Type 1} → statement M
@@ -72,9 +72,9 @@ read-table-spec =
     enum-known-got
     enum-told
     returns
-    slice-aggregate-run-beyond
-    slice-aggregate-run-beyond-2
-    run-beyond-requires
+    slice-aggregate-run-states
+    slice-aggregate-run-states-2
+    run-states-requires
     enum-known-ran
     returns-2
     enum-told-2
