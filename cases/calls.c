@@ -9,6 +9,8 @@
    load_table ROOM TABLE                how many numbers were written or the refusal, then the loaded slice
    run_loaded ROOM NUMBERS / SENTENCE   the number of changed tags or the refusal, then the output slice
 
+   With ending END in front, run_book, compile and slices make the calls that name an end tag.
+
    ROOM is the length of the output slice, ENTRIES that of the work slice; bytes are pairs of hexadecimal digits, numbers decimal. Output
    and work slices are the front of longer memory, which holds sevens before each call. A line that can't be read ends the program with
    status 2. */
@@ -27,6 +29,8 @@ static size_t lines;
 static uint8_t first[MOST_BYTES], sentence[MOST_BYTES], out[MOST_BYTES]; /* first: the book or table */
 static uint16_t work[MOST_ENTRIES];
 static uint32_t loaded[MOST_NUMBERS];
+static uint8_t end_tag;
+static int with_end; /* whether the line's call names an end tag */
 
 static void unreadable(const char *why)
 {
@@ -128,11 +132,18 @@ static void print_run(uint64_t answer, size_t room)
         printf(" %d", out[i]);
 }
 
+static uint64_t run_book(size_t book_len, size_t length, uint8_t *to, size_t room)
+{
+    if (with_end)
+        return nedzsuka_run_book_ending(first, book_len, end_tag, sentence, length, to, room);
+    return nedzsuka_run_book(first, book_len, sentence, length, to, room);
+}
+
 static void run(int table)
 {
     size_t room = read_number(MOST_BYTES), first_len = read_bytes(first, 1), length = read_bytes(sentence, 0);
 
-    print_run((table ? nedzsuka_run_table : nedzsuka_run_book)(first, first_len, sentence, length, out, room), room);
+    print_run(table ? nedzsuka_run_table(first, first_len, sentence, length, out, room) : run_book(first_len, length, out, room), room);
 }
 
 static void run_loaded(void)
@@ -157,7 +168,7 @@ static int agreements(size_t book_len, size_t table_len)
             sentence[j] = (uint8_t)(x / 0x1000000 % first[1]);
         }
         memset(by, 7, sizeof by);
-        answer = nedzsuka_run_book(first, book_len, sentence, length, by[0], LENGTHS);
+        answer = run_book(book_len, length, by[0], LENGTHS);
         same += nedzsuka_refusal(answer) == NEDZSUKA_OK &&
                 nedzsuka_run_table(out, table_len, sentence, length, by[1], LENGTHS) == answer && memcmp(by[0], by[1], LENGTHS) == 0;
     }
@@ -179,7 +190,8 @@ static void compile(int slices)
 {
     size_t ceiling = read_number(UINT32_MAX), entries = read_number(MOST_ENTRIES), room = read_number(MOST_BYTES);
     size_t book_len = read_bytes(first, 0);
-    uint64_t answer = nedzsuka_compile(first, book_len, ceiling, work, entries, out, room);
+    uint64_t answer = with_end ? nedzsuka_compile_ending(first, book_len, end_tag, ceiling, work, entries, out, room)
+                               : nedzsuka_compile(first, book_len, ceiling, work, entries, out, room);
 
     if (!refused(answer, "rule"))
         printf("states %d, bytes %" PRIu64, out[2] * 256 + out[3], nedzsuka_value(answer));
@@ -189,8 +201,18 @@ static void compile(int slices)
         printf(", agree on %d of %d sentences", agreements(book_len, (size_t)nedzsuka_value(answer)), DRAWN);
 }
 
+static const char *read_ending(const char *word)
+{
+    with_end = word != NULL && strcmp(word, "ending") == 0;
+    if (!with_end)
+        return word;
+    end_tag = (uint8_t)read_number(UINT8_MAX);
+    return strtok(NULL, " \n");
+}
+
 static void answer_line(const char *word)
 {
+    word = read_ending(word);
     word = word == NULL ? "" : word;
     memset(out, 7, sizeof out);
     for (size_t i = 0; i < MOST_ENTRIES; i++)

@@ -336,3 +336,54 @@ book 37 28 553 '20 03 21 01 00 22 01 22 02 21 01 01 22 00 22 02 22 00 21 00 01 2
 book 38 23 335 '20 02 21 01 01 22 00 22 00 22 01 21 03 01 22 01 22 01 22 00 22 00 22 01 22 00 21 01 01 22 01 22 00 22 01 00'
 book 39 7 89 '20 02 21 01 01 22 00 22 00 21 01 01 22 01 22 00 00'
 book 40 42 787 '20 03 21 03 02 22 00 22 00 22 00 22 01 22 02 21 01 02 22 02 22 00 22 01 21 02 02 22 00 22 01 22 00 22 01 00'
+
+# ---- End tags ----
+
+# Over four tags, with 3 for the full stop: 0 1 to 0 2, 0 3 to 1 3, which ends with it, 3 1 to 3 2, which begins with it, and 1 to 3, which
+# makes it.
+noun='20 04 21 01 02 22 00 22 01 00'
+closing='20 04 21 00 01 22 00 22 03 00'
+opening='20 04 21 01 02 22 03 22 01 00'
+making='20 04 21 00 03 22 01 00'
+
+# ends NAME END BOOK SENTENCE RESULT: with an output slice of 13 bytes.
+ends() { call "$1, end tag $2" "ending $2 run_book 13 $3 / $4" "$5"; }
+
+ends 'three sentences' 3 "$noun" '00 01 00 01 03 00 01 03 01 00 01 03' '3 changed, output 0 2 0 1 3 0 2 3 1 0 2 3 7'
+ends 'three sentences, the last without its end' 3 "$noun" '00 01 00 01 03 00 01 03 01 00 01' '3 changed, output 0 2 0 1 3 0 2 3 1 0 2 7 7'
+ends 'three sentences as one' 255 "$noun" '00 01 00 01 03 00 01 03 01 00 01' '1 changed, output 0 2 0 1 3 0 1 3 1 0 1 7 7'
+ends 'one sentence without its end' 3 "$noun" '00 01 00 01' '1 changed, output 0 2 0 1 7 7 7 7 7 7 7 7 7'
+ends 'empty sentences' 3 "$noun" '03 03 00 01 03 03' '1 changed, output 3 3 0 2 3 3 7 7 7 7 7 7 7'
+ends 'no match across the end' 3 "$noun" '00 03 01' '0 changed, output 0 3 1 7 7 7 7 7 7 7 7 7 7'
+ends 'no tags' 3 "$noun" '' "0 changed, output$(times 13 ' 7')"
+ends 'a pattern that ends with it' 3 "$closing" '00 00 03 00 03 01 00' '2 changed, output 0 1 3 1 3 1 0 7 7 7 7 7 7'
+ends 'the lowest tag' 0 "$opening" '03 01 03 01 00 03 01' '2 changed, output 3 2 3 1 0 3 2 7 7 7 7 7 7'
+
+# gives_14 NAME END BOOK: from the run, before 4 and 11, and from compile, before 9, with both slices as they were; 8 comes before it.
+gives_14() {
+    call "$1, end tag $2, run" "ending $2 run_book 2 $3 / ff ff ff" 'refused 14, output 7 7'
+    call "$1, end tag $2" "ending $2 slices 3 3120 99 $3" 'refused 14; 0 entries and 0 bytes other than before'
+    call "$1, end tag $2, no entries" "ending $2 slices 3 0 0 $3" 'refused 14; 0 entries and 0 bytes other than before'
+    call "$1, end tag $2, ceiling 0" "ending $2 slices 0 0 0 $3" 'refused 8; 0 entries and 0 bytes other than before'
+}
+
+gives_14 'K' 4 "$noun"
+gives_14 'no tag' 254 "$noun"
+gives_14 'before the last place' 3 "$opening"
+gives_14 'changed' 1 "$noun"
+gives_14 'made' 3 "$making"
+gives_14 'no rules, K' 2 '20 02 00'
+call 'a book without its end, end tag 4' "ending 4 slices 3 3120 99 ${noun% *}" 'refused 1; 0 entries and 0 bytes other than before'
+
+# compile_ending NAME END CEILING BOOK RESULT: with the longest slices.
+compile_ending() { call "$1, end tag $2" "ending $2 compile $3 1081344 65536 $4" "$5"; }
+
+# One state more than the pattern has tags; as many where it ends with the end tag.
+compile_ending '0 1 to 0 2' 3 3 "$noun" "states 3, bytes 71, $agree"
+compile_ending '0 1 to 0 2' 255 3 "$noun" "states 3, bytes 71, $agree"
+compile_ending '0 1 to 0 2' 3 2 "$noun" 'refused 10 at rule 1'
+compile_ending '0 3 to 1 3' 3 2 "$closing" "states 2, bytes 55, $agree"
+compile_ending '0 3 to 1 3' 3 1 "$closing" 'refused 10 at rule 1'
+compile_ending '0 3 to 1 3' 2 3 "$closing" "states 3, bytes 77, $agree"
+compile_ending '0 3 to 1 3' 255 2 "$closing" 'refused 10 at rule 1'
+compile_ending 'no rules' 0 1 '20 04 00' "states 1, bytes 27, $agree"

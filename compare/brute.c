@@ -13,7 +13,7 @@ struct view {
     uint8_t *residual;
 };
 
-void brute_rewrite(const struct made_book *book, uint8_t *word, size_t length)
+static void rewrite_piece(const struct made_book *book, uint8_t *word, size_t length)
 {
     for (size_t i = 0; i < book->rules; i++) {
         const struct made_rule *rule = &book->rule[i];
@@ -24,6 +24,18 @@ void brute_rewrite(const struct made_book *book, uint8_t *word, size_t length)
             }
         }
     }
+}
+
+void brute_rewrite(const struct made_book *book, unsigned end, uint8_t *word, size_t length)
+{
+    size_t piece = 0;
+
+    while (piece < length && word[piece] != end)
+        piece++;
+    piece += piece < length;
+    rewrite_piece(book, word, piece);
+    if (piece < length)
+        brute_rewrite(book, end, word + piece, length - piece);
 }
 
 /* The next tail in the order of length and, within a length, of a counter with the last tag quickest. */
@@ -50,7 +62,7 @@ static size_t common_front(const uint8_t *a, const uint8_t *b, size_t most)
     return i;
 }
 
-static void look(const struct made_book *book, size_t depth, struct view *view)
+static void look(const struct made_book *book, unsigned end, size_t depth, struct view *view)
 {
     static uint8_t made[MOST_TAILS][LONGEST_TRIED];
     static size_t length[MOST_TAILS];
@@ -62,7 +74,7 @@ static void look(const struct made_book *book, size_t depth, struct view *view)
         memcpy(made[tails], view->word, view->word_length);
         memcpy(made[tails] + view->word_length, tail, t);
         length[tails] = view->word_length + t;
-        brute_rewrite(book, made[tails], length[tails]);
+        brute_rewrite(book, end, made[tails], length[tails]);
         front = common_front(made[0], made[tails], front);
         if (++tails == MOST_TAILS)
             abort();
@@ -118,7 +130,7 @@ static void make_room(struct view *view)
     }
 }
 
-size_t brute_table(const struct made_book *book, size_t depth, uint8_t *bytes)
+size_t brute_table(const struct made_book *book, unsigned end, size_t depth, uint8_t *bytes)
 {
     static struct view view[BRUTE_STATES + 1];
     size_t states = 1;
@@ -126,7 +138,7 @@ size_t brute_table(const struct made_book *book, size_t depth, uint8_t *bytes)
 
     make_room(&view[0]);
     view[0].word_length = 0;
-    look(book, depth, &view[0]);
+    look(book, end, depth, &view[0]);
     for (size_t q = 0; q < states; q++) {
         to = write_final(to, &view[q]);
         for (size_t tag = 0; tag < book->tags; tag++) {
@@ -136,7 +148,7 @@ size_t brute_table(const struct made_book *book, size_t depth, uint8_t *bytes)
             reached->word_length = view[q].word_length + 1;
             memcpy(reached->word, view[q].word, view[q].word_length);
             reached->word[view[q].word_length] = (uint8_t)tag;
-            look(book, depth, reached);
+            look(book, end, depth, reached);
             while (!same_residual(&view[same], reached))
                 same++;
             to = write_step(to, same, &view[q], reached);

@@ -12,16 +12,18 @@
 #include "reference.h"
 #include "slices.h"
 
-enum { REFUSALS = 14, SIZES = 9, MOST_SHOWN = 4096, SECONDS_A_CALL = 100 };
+enum { REFUSALS = 15, SIZES = 9, MOST_SHOWN = 4096, SECONDS_A_CALL = 100 };
 
-static const char *const call_name[CALLS] = {"nedzsuka_compile",    "nedzsuka_run_book",   "nedzsuka_run_table", "nedzsuka_read_book",
-                                             "nedzsuka_read_table", "nedzsuka_load_table", "nedzsuka_run_loaded"};
+static const char *const call_name[CALLS] = {
+    "nedzsuka_compile",   "nedzsuka_compile_ending", "nedzsuka_run_book",   "nedzsuka_run_book_ending", "nedzsuka_run_table",
+    "nedzsuka_read_book", "nedzsuka_read_table",     "nedzsuka_load_table", "nedzsuka_run_loaded"};
 
 static struct {
     enum call call;
     const uint8_t *bytes, *sentence; /* bytes: of the book, the table or the loaded numbers */
     size_t length, sentence_len, work_len, out_len;
     uint64_t ceiling, answer, expected;
+    uint8_t end;
 } now;
 
 static struct slice first_slice, sentence_slice, out_slice, work_slice, loaded_slice;
@@ -60,9 +62,11 @@ void fail(const char *what)
     fprintf(stderr, "answer %" PRIu64 " with refusal %" PRIu64 ", expected %" PRIu64 " with refusal %" PRIu64 "\n", now.answer >> 8,
             now.answer & 255, now.expected >> 8, now.expected & 255);
     print_input();
-    if (now.call == COMPILE)
+    if (now.call == COMPILE_ENDING || now.call == RUN_BOOK_ENDING)
+        fprintf(stderr, "end tag %d\n", now.end);
+    if (now.call == COMPILE || now.call == COMPILE_ENDING)
         fprintf(stderr, "ceiling %" PRIu64 ", work slice of %zu entries, ", now.ceiling, now.work_len);
-    else if (now.call == RUN_BOOK || now.call == RUN_TABLE || now.call == RUN_LOADED)
+    else if (now.call == RUN_BOOK || now.call == RUN_BOOK_ENDING || now.call == RUN_TABLE || now.call == RUN_LOADED)
         print_hex("sentence", now.sentence, now.sentence_len);
     fprintf(stderr, "output slice of %zu %s\n", now.out_len, now.call == LOAD_TABLE ? "numbers" : "bytes");
     _exit(1);
@@ -147,7 +151,7 @@ static void count_answer(void)
 
     calls_made++;
     refusals[now.call][refusal]++;
-    if (now.call != COMPILE)
+    if (now.call != COMPILE && now.call != COMPILE_ENDING)
         return;
     if (refusal == 10)
         ten_at[now.ceiling]++;
@@ -187,28 +191,73 @@ static size_t rules_in(const uint8_t *valid_book)
     return rules;
 }
 
-uint64_t compare_compile(const uint8_t *book, size_t book_len, uint64_t ceiling, size_t work_len, size_t out_len)
+static void compile_both(void)
 {
-    now.call = COMPILE;
+    uint8_t *book = first_slice.at, *out = out_slice.at;
+    uint16_t *work = (uint16_t *)(void *)work_slice.at;
+
+    if (now.call == COMPILE) {
+        now.expected = reference_compile(now.bytes, now.length, now.ceiling, expected_work, now.work_len, expected_out, now.out_len);
+        alarm(SECONDS_A_CALL);
+        now.answer = nedzsuka_compile(book, now.length, now.ceiling, work, now.work_len, out, now.out_len);
+    } else {
+        now.expected = reference_compile_ending(now.bytes, now.length, now.end, now.ceiling, expected_work, now.work_len,
+                                                expected_out, now.out_len);
+        alarm(SECONDS_A_CALL);
+        now.answer = nedzsuka_compile_ending(book, now.length, now.end, now.ceiling, work, now.work_len, out, now.out_len);
+    }
+}
+
+static uint64_t compare_compiling(enum call call, const uint8_t *book, size_t book_len, unsigned end, uint64_t ceiling,
+                                  size_t work_len, size_t out_len)
+{
+    now.call = call;
     now.bytes = book;
     now.length = book_len;
+    now.end = (uint8_t)end;
     now.ceiling = ceiling;
     now.work_len = work_len;
     now.out_len = out_len;
     lend_input(&first_slice, book, book_len);
     lend_random(&out_slice, out_len, expected_out);
     lend_random(&work_slice, work_len * sizeof(uint16_t), expected_work);
-    now.expected = reference_compile(book, book_len, ceiling, expected_work, work_len, expected_out, out_len);
-    alarm(SECONDS_A_CALL);
-    now.answer = nedzsuka_compile(first_slice.at, book_len, ceiling, (uint16_t *)(void *)work_slice.at, work_len, out_slice.at,
-                                  out_len);
+    compile_both();
     check_call();
     check_out();
-    check_output(&work_slice, expected_work, "the work slice isn't what document 01 says");
+    check_output(&work_slice, expected_work, "the work slice isn't what the papers say");
     count_answer();
     if ((now.answer & 255) == 0 && now.answer >> 8 > nedzsuka_table_bytes(ceiling, book[1], rules_in(book)))
         fail("a longer table than the header allows");
     return now.answer;
+}
+
+uint64_t compare_compile(const uint8_t *book, size_t book_len, uint64_t ceiling, size_t work_len, size_t out_len)
+{
+    return compare_compiling(COMPILE, book, book_len, NO_END, ceiling, work_len, out_len);
+}
+
+uint64_t compare_compile_ending(const uint8_t *book, size_t book_len, unsigned end, uint64_t ceiling, size_t work_len,
+                                size_t out_len)
+{
+    return compare_compiling(COMPILE_ENDING, book, book_len, end, ceiling, work_len, out_len);
+}
+
+static void run_both(void)
+{
+    const uint8_t *bytes = first_slice.at, *sentence = sentence_slice.at;
+    size_t length = now.length, count = now.sentence_len, room = now.out_len;
+
+    if (now.call == RUN_BOOK_ENDING)
+        now.expected = reference_run_book_ending(now.bytes, length, now.end, now.sentence, count, expected_out, room);
+    else
+        now.expected = (now.call == RUN_BOOK ? reference_run_book : reference_run_table)(now.bytes, length, now.sentence, count,
+                                                                                         expected_out, room);
+    alarm(SECONDS_A_CALL);
+    if (now.call == RUN_BOOK_ENDING)
+        now.answer = nedzsuka_run_book_ending(bytes, length, now.end, sentence, count, out_slice.at, room);
+    else
+        now.answer = (now.call == RUN_BOOK ? nedzsuka_run_book : nedzsuka_run_table)(bytes, length, sentence, count, out_slice.at,
+                                                                                     room);
 }
 
 uint64_t compare_run(enum call call, const uint8_t *bytes, size_t length, const uint8_t *sentence, size_t sentence_len,
@@ -223,16 +272,19 @@ uint64_t compare_run(enum call call, const uint8_t *bytes, size_t length, const 
     lend_input(&first_slice, bytes, length);
     lend_input(&sentence_slice, sentence, sentence_len);
     lend_random(&out_slice, out_len, expected_out);
-    now.expected = (call == RUN_BOOK ? reference_run_book : reference_run_table)(bytes, length, sentence, sentence_len,
-                                                                                   expected_out, out_len);
-    alarm(SECONDS_A_CALL);
-    now.answer = (call == RUN_BOOK ? nedzsuka_run_book : nedzsuka_run_table)(first_slice.at, length, sentence_slice.at,
-                                                                             sentence_len, out_slice.at, out_len);
+    run_both();
     check_call();
     check_out();
     check_input(&sentence_slice, sentence, "the call changes its sentence");
     count_answer();
     return now.answer;
+}
+
+uint64_t compare_run_ending(const uint8_t *book, size_t book_len, unsigned end, const uint8_t *sentence, size_t sentence_len,
+                            size_t out_len)
+{
+    now.end = (uint8_t)end;
+    return compare_run(RUN_BOOK_ENDING, book, book_len, sentence, sentence_len, out_len);
 }
 
 uint64_t compare_read(enum call call, const uint8_t *bytes, size_t length)

@@ -5,8 +5,8 @@
 #include <stddef.h>
 #include <stdint.h>
 
-enum call { COMPILE, RUN_BOOK, RUN_TABLE, READ_BOOK, READ_TABLE, LOAD_TABLE, RUN_LOADED, CALLS };
-enum { LONGEST_TRIED_SENTENCE = 70000, LONGEST_TABLE = 2061157, TABLE_ROOM = 2400000, MOST_WORK = 16 * 256 * 49 * 88 };
+enum call { COMPILE, COMPILE_ENDING, RUN_BOOK, RUN_BOOK_ENDING, RUN_TABLE, READ_BOOK, READ_TABLE, LOAD_TABLE, RUN_LOADED, CALLS };
+enum { LONGEST_TRIED_SENTENCE = 70000, LONGEST_TABLE = 2061157, TABLE_ROOM = 2400000, MOST_WORK = 16 * 256 * 49 * 88, NO_END = 255 };
 
 /* The output slice of the last call, as the library left it, and that of the last load. */
 extern const uint8_t *last_out;
@@ -17,8 +17,12 @@ void start_calls(uint64_t seed);
 void fail(const char *what);
 
 uint64_t compare_compile(const uint8_t *book, size_t book_len, uint64_t ceiling, size_t work_len, size_t out_len);
+uint64_t compare_compile_ending(const uint8_t *book, size_t book_len, unsigned end, uint64_t ceiling, size_t work_len,
+                                size_t out_len);
 uint64_t compare_run(enum call call, const uint8_t *bytes, size_t length, const uint8_t *sentence, size_t sentence_len,
                      size_t out_len);
+uint64_t compare_run_ending(const uint8_t *book, size_t book_len, unsigned end, const uint8_t *sentence, size_t sentence_len,
+                            size_t out_len);
 uint64_t compare_read(enum call call, const uint8_t *bytes, size_t length);
 uint64_t compare_load(const uint8_t *table, size_t table_len, size_t loaded_len);
 uint64_t compare_run_loaded(const uint32_t *loaded, size_t loaded_len, const uint8_t *sentence, size_t sentence_len,

@@ -6,6 +6,7 @@
 
 #include "brute.h"
 #include "calls.h"
+#include "ending.h"
 #include "generate.h"
 #include "loaded.h"
 #include "nedzsuka.h"
@@ -479,7 +480,7 @@ static void compare_tried(const struct made_book *book)
 
     for (size_t i = 0; i < book->rules; i++)
         depth += book->rule[i].length;
-    tried_len = brute_table(book, depth, tried);
+    tried_len = brute_table(book, NO_END, depth, tried);
     if (refusal_of(answer) == 10 && tried_len == 0)
         return;
     if (refusal_of(answer) != 0 || states_of(tried) != states_of(last_out))
@@ -515,7 +516,7 @@ static uint64_t behavior_mark(const struct made_book *book)
         for (unsigned bits = 0; bits < 1u << length; bits++) {
             for (size_t i = 0; i < length; i++)
                 word[i] = bits >> i & 1;
-            brute_rewrite(book, word, length);
+            brute_rewrite(book, NO_END, word, length);
             for (size_t i = 0; i < length; i++)
                 mark = (mark ^ word[i]) * 1099511628211u;
         }
@@ -630,6 +631,11 @@ int main(int argc, char **argv)
     compare_random_numbers(30000);
     compare_small_books();
     compare_tried_books(2500);
+    compare_ending_cases();
+    compare_every_end();
+    alike += compare_ending_pairs();
+    tried_out += compare_ending_tried(600);
+    compare_ending_books(6000);
     compare_bytes_of_books(30000);
     compare_damaged_books(60000);
     compare_lengthened_books(6000);

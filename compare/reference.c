@@ -11,6 +11,7 @@ enum {
     LONGEST_PATTERN = 6,
     MOST_STATES = 256,
     MOST_HELD = 80,
+    NO_END = 255,
     LONGEST_SENTENCE = 65535,
     MOST_PAIRS = MOST_STATES * (LONGEST_PATTERN + 1),
     LONGEST_WORD = 90,
@@ -22,8 +23,9 @@ struct rule {
     int length, place, new_tag;
 };
 
+/* With the end tag of the call, 255 for none. */
 struct book {
-    int tags, rules;
+    int tags, rules, end;
     struct rule rule[MOST_RULES];
 };
 
@@ -151,6 +153,32 @@ uint64_t reference_read_book(const uint8_t *bytes, size_t length)
     return ((uint64_t)book.tags * 256 + (uint64_t)book.rules) * 256;
 }
 
+/* ---- The end tag of a call ---- */
+
+static int rule_misuses(const struct rule *rule, int end)
+{
+    for (int i = 0; i + 1 < rule->length; i++)
+        if (rule->pattern[i] == end)
+            return 1;
+    return rule->pattern[rule->place] == end || rule->new_tag == end;
+}
+
+/* The book's refusals, then 14. */
+static int read_book_ending(const uint8_t *bytes, size_t length, int end, struct book *book)
+{
+    int refusal = read_book(bytes, length, book);
+
+    book->end = end;
+    if (refusal || end == NO_END)
+        return refusal;
+    if (end >= book->tags)
+        return 14;
+    for (int i = 0; i < book->rules; i++)
+        if (rule_misuses(&book->rule[i], end))
+            return 14;
+    return 0;
+}
+
 /* ---- The run of a book ---- */
 
 static int refusal_of_sentence(const uint8_t *sentence, size_t length, int tags, size_t room)
@@ -191,11 +219,25 @@ static void rewrite_leftmost(const struct rule *rule, uint8_t *sentence, size_t 
     }
 }
 
-uint64_t reference_run_book(const uint8_t *book_bytes, size_t book_len, const uint8_t *sentence, size_t sentence_len,
-                            uint8_t *out, size_t out_len)
+/* Cut after each end tag, each piece rewritten by itself. */
+static void rewrite_pieces(const struct book *book, uint8_t *sentence, size_t length)
+{
+    size_t from = 0;
+
+    for (size_t to = 1; to <= length; to++) {
+        if (to < length && sentence[to - 1] != book->end)
+            continue;
+        for (int i = 0; i < book->rules; i++)
+            rewrite_leftmost(&book->rule[i], sentence + from, to - from);
+        from = to;
+    }
+}
+
+uint64_t reference_run_book_ending(const uint8_t *book_bytes, size_t book_len, uint8_t end, const uint8_t *sentence,
+                                   size_t sentence_len, uint8_t *out, size_t out_len)
 {
     struct book book;
-    int refusal = read_book(book_bytes, book_len, &book);
+    int refusal = read_book_ending(book_bytes, book_len, end, &book);
 
     if (!refusal)
         refusal = refusal_of_sentence(sentence, sentence_len, book.tags, out_len);
@@ -203,9 +245,14 @@ uint64_t reference_run_book(const uint8_t *book_bytes, size_t book_len, const ui
         return (uint64_t)refusal;
     for (size_t i = 0; i < sentence_len; i++)
         out[i] = sentence[i];
-    for (int i = 0; i < book.rules; i++)
-        rewrite_leftmost(&book.rule[i], out, sentence_len);
+    rewrite_pieces(&book, out, sentence_len);
     return changed_times_256(sentence, out, sentence_len);
+}
+
+uint64_t reference_run_book(const uint8_t *book, size_t book_len, const uint8_t *sentence, size_t sentence_len, uint8_t *out,
+                            size_t out_len)
+{
+    return reference_run_book_ending(book, book_len, NO_END, sentence, sentence_len, out, out_len);
 }
 
 /* ---- The bytes of a table, and its run ---- */
@@ -542,11 +589,23 @@ static int feed(const struct rule *rule, int matched, int tag, struct word *word
     return next;
 }
 
-static int feed_word(const struct rule *rule, int matched, const struct word *fed, struct word *word)
+static void put_held(const struct rule *rule, int matched, struct word *word)
+{
+    for (int held = 0, all = held_at(rule, matched); held < all; held++)
+        put(word, rule->pattern[rule->place + held]);
+}
+
+/* After the end tag nothing is held and nothing is matched: the next piece begins. */
+static int feed_word(const struct rule *rule, int end, int matched, const struct word *fed, struct word *word)
 {
     word->length = 0;
-    for (int i = 0; i < fed->length; i++)
+    for (int i = 0; i < fed->length; i++) {
         matched = feed(rule, matched, fed->tag[i], word);
+        if (fed->tag[i] != end)
+            continue;
+        put_held(rule, matched, word);
+        matched = 0;
+    }
     return matched;
 }
 
@@ -575,7 +634,7 @@ static int pair_number(struct pairs *pairs, int state, int matched)
     return *number;
 }
 
-static void make_pairs(struct pairs *pairs, const struct machine *before, const struct rule *rule)
+static void make_pairs(struct pairs *pairs, const struct machine *before, const struct rule *rule, int end)
 {
     memset(pairs->number, -1, sizeof pairs->number);
     pairs->tags = before->tags;
@@ -584,11 +643,10 @@ static void make_pairs(struct pairs *pairs, const struct machine *before, const 
     for (int i = 0; i < pairs->count; i++) {
         const struct row *from = &before->row[pairs->state[i]];
         struct row *row = &pairs->row[i];
-        int matched = feed_word(rule, pairs->matched[i], &from->final, &row->final);
-        for (int held = 0, all = held_at(rule, matched); held < all; held++)
-            put(&row->final, rule->pattern[rule->place + held]);
+        int matched = feed_word(rule, end, pairs->matched[i], &from->final, &row->final);
+        put_held(rule, matched, &row->final);
         for (int tag = 0; tag < pairs->tags; tag++) {
-            matched = feed_word(rule, pairs->matched[i], &from->out[tag], &row->out[tag]);
+            matched = feed_word(rule, end, pairs->matched[i], &from->out[tag], &row->out[tag]);
             row->next[tag] = (uint16_t)pair_number(pairs, from->next[tag], matched);
         }
     }
@@ -789,11 +847,11 @@ static int number_states(struct pairs *pairs, int ceiling, struct machine *after
     return 1;
 }
 
-static int add_rule(struct machine *machine, const struct rule *rule, int ceiling)
+static int add_rule(struct machine *machine, const struct rule *rule, int end, int ceiling)
 {
     static struct pairs pairs;
 
-    make_pairs(&pairs, machine, rule);
+    make_pairs(&pairs, machine, rule, end);
     find_fronts(&pairs);
     put_out_early(&pairs);
     find_kinds(&pairs);
@@ -845,8 +903,8 @@ static size_t write_table(const struct machine *machine, uint8_t *bytes)
     return (size_t)(to - bytes);
 }
 
-uint64_t reference_compile(const uint8_t *book_bytes, size_t book_len, uint64_t ceiling, uint16_t *work, size_t work_len,
-                           uint8_t *out, size_t out_len)
+uint64_t reference_compile_ending(const uint8_t *book_bytes, size_t book_len, uint8_t end, uint64_t ceiling, uint16_t *work,
+                                  size_t work_len, uint8_t *out, size_t out_len)
 {
     static struct machine machine;
     static uint8_t table[LONGEST_TABLE];
@@ -856,7 +914,7 @@ uint64_t reference_compile(const uint8_t *book_bytes, size_t book_len, uint64_t 
 
     if (ceiling < 1 || ceiling > MOST_STATES)
         return 8;
-    refusal = read_book(book_bytes, book_len, &book);
+    refusal = read_book_ending(book_bytes, book_len, end, &book);
     if (refusal)
         return (uint64_t)refusal;
     entries = 16 * (size_t)ceiling * (size_t)(book.tags + 1) * (size_t)(5 * book.rules + 8);
@@ -865,11 +923,17 @@ uint64_t reference_compile(const uint8_t *book_bytes, size_t book_len, uint64_t 
     memset(work, 0, entries * sizeof *work);
     change_nothing(&machine, book.tags);
     for (int i = 0; i < book.rules; i++)
-        if (!add_rule(&machine, &book.rule[i], (int)ceiling))
+        if (!add_rule(&machine, &book.rule[i], end, (int)ceiling))
             return (uint64_t)(i + 1) * 256 + 10;
     length = write_table(&machine, table);
     if (out_len < length)
         return 11;
     memcpy(out, table, length);
     return (uint64_t)length * 256;
+}
+
+uint64_t reference_compile(const uint8_t *book, size_t book_len, uint64_t ceiling, uint16_t *work, size_t work_len, uint8_t *out,
+                           size_t out_len)
+{
+    return reference_compile_ending(book, book_len, NO_END, ceiling, work, work_len, out, out_len);
 }

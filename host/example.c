@@ -1,4 +1,4 @@
-/* example [-c CEILING] BOOK [TAG ...]: compiles the book in a file, loads the table once, and tags a sentence with it. */
+/* example [-c CEILING] [-e END] BOOK [TAG ...]: compiles the book in a file, loads the table once, and tags sentences with it. */
 #include <nedzsuka.h>
 
 #include <errno.h>
@@ -7,7 +7,7 @@
 #include <stdlib.h>
 #include <string.h>
 
-#define SYNOPSIS "usage: example [-c CEILING] BOOK [TAG ...]\n"
+#define SYNOPSIS "usage: example [-c CEILING] [-e END] BOOK [TAG ...]\n"
 
 /* Exit statuses; every function of type int answers one, read_number excepted. */
 enum { DONE = 0, REFUSED = 1, FAILED = 2 };
@@ -16,12 +16,14 @@ static const char usage[] =
     SYNOPSIS
     "       example --help | -h\n"
     "\n"
-    "Compiles a book of tag rules to its smallest table, and runs the table over a sentence.\n"
+    "Compiles a book of tag rules to its smallest table, and runs the table over a sentence,\n"
+    "or over several that end with a tag.\n"
     "Prints the table's states and length, the result, and the number of changed tags.\n"
     "\n"
     "  BOOK        a file with the raw bytes of a book, not text; nedzsuka.h says what they are\n"
     "  TAG ...     the sentence, each tag a number from 0 to 255; empty if there are none\n"
     "  -c CEILING  the most states that the table may have, 1 to 256; 256 if not given\n"
+    "  -e END      the tag that ends a sentence; 255, which is none, if not given\n"
     "\n"
     "Exit status:\n"
     "  0  a result\n"
@@ -31,7 +33,7 @@ static const char usage[] =
 
 /* What the arguments ask for. */
 struct request {
-    uint64_t ceiling;
+    uint64_t ceiling, end;
     const char *book;
     char **tags;
     size_t count;
@@ -62,20 +64,30 @@ static int read_number(const char *text, uint64_t limit, uint64_t *number)
     return *end == '\0' && errno == 0 && *number <= limit;
 }
 
+static int read_option(const char *option, const char *value, struct request *request)
+{
+    if (strcmp(option, "-c") == 0)
+        return value != NULL && read_number(value, UINT64_MAX, &request->ceiling)
+                   ? DONE
+                   : wrong_argument(option, "no number below 2^64 after it");
+    if (strcmp(option, "-e") == 0)
+        return value != NULL && read_number(value, UINT8_MAX, &request->end)
+                   ? DONE
+                   : wrong_argument(option, "no number from 0 to 255 after it");
+    return wrong_argument(option, "not an option here");
+}
+
 static int read_arguments(int argc, char **argv, struct request *request)
 {
     int at = 1;
 
     request->ceiling = NEDZSUKA_MOST_STATES;
-    if (argc > 1 && strcmp(argv[1], "-c") == 0) {
-        if (argc < 3 || !read_number(argv[2], UINT64_MAX, &request->ceiling))
-            return wrong_argument("-c", "no number below 2^64 after it");
-        at = 3;
-    }
+    request->end = NEDZSUKA_NO_END;
+    for (; at < argc && argv[at][0] == '-'; at += 2)
+        if (read_option(argv[at], argv[at + 1], request) != DONE)
+            return FAILED;
     if (at >= argc)
         return wrong_argument("BOOK", "missing");
-    if (argv[at][0] == '-')
-        return wrong_argument(argv[at], "not an option here");
     request->book = argv[at];
     request->tags = argv + at + 1;
     request->count = (size_t)(argc - at - 1);
@@ -121,14 +133,15 @@ static void *allocate(size_t bytes)
 /* Compiles into a slice that the caller frees. What is needed goes by the ceiling, the book's tags and its rules, which reading it
    has answered. With a book that is not valid or a ceiling out of bounds both slices are empty, and the call gives that refusal before
    it asks for them. */
-static uint64_t compile_book(const uint8_t *book, size_t book_len, uint64_t read, uint64_t ceiling, uint8_t **table)
+static uint64_t compile_book(const uint8_t *book, size_t book_len, uint64_t read, const struct request *request, uint8_t **table)
 {
     uint64_t size = nedzsuka_refusal(read) == NEDZSUKA_OK ? nedzsuka_value(read) : 0, tags = size / 256, rules = size % 256, answer;
-    size_t work_len = nedzsuka_work_entries(ceiling, tags, rules), table_room = nedzsuka_table_bytes(ceiling, tags, rules);
+    size_t work_len = nedzsuka_work_entries(request->ceiling, tags, rules);
+    size_t table_room = nedzsuka_table_bytes(request->ceiling, tags, rules);
     uint16_t *work = allocate(work_len * sizeof *work);
 
     *table = allocate(table_room);
-    answer = nedzsuka_compile(book, book_len, ceiling, work, work_len, *table, table_room);
+    answer = nedzsuka_compile_ending(book, book_len, (uint8_t)request->end, request->ceiling, work, work_len, *table, table_room);
     free(work);
     return answer;
 }
@@ -172,7 +185,7 @@ static int print_result(uint64_t states, size_t table_len, const uint8_t *result
 }
 
 /* Nothing is printed before the last call has answered: a refusal leaves standard output empty. A host with many sentences loads the
-   table once and makes the run for each. */
+   table once and makes the run for each, or for several at once if the book was compiled with the tag that ends them. */
 static int tag_sentence(const uint8_t *table, size_t table_len, const uint8_t *sentence, size_t count)
 {
     uint32_t *loaded;
@@ -192,14 +205,14 @@ static int tag_sentence(const uint8_t *table, size_t table_len, const uint8_t *s
     return status;
 }
 
-static int run(const uint8_t *book, size_t book_len, uint64_t ceiling, const uint8_t *sentence, size_t count)
+static int run(const uint8_t *book, size_t book_len, const struct request *request, const uint8_t *sentence)
 {
     uint8_t *table;
-    uint64_t read = nedzsuka_read_book(book, book_len), answer = compile_book(book, book_len, read, ceiling, &table);
+    uint64_t read = nedzsuka_read_book(book, book_len), answer = compile_book(book, book_len, read, request, &table);
     int status;
 
     if (nedzsuka_refusal(answer) == NEDZSUKA_OK)
-        status = tag_sentence(table, (size_t)nedzsuka_value(answer), sentence, count);
+        status = tag_sentence(table, (size_t)nedzsuka_value(answer), sentence, request->count);
     else if (nedzsuka_refusal(answer) == NEDZSUKA_TOO_MANY_STATES)
         status = refused(answer, "rule");
     else if (nedzsuka_refusal(answer) == nedzsuka_refusal(read))
@@ -229,7 +242,7 @@ int main(int argc, char **argv)
     if (status == DONE)
         status = read_book(request.book, book, &book_len);
     if (status == DONE)
-        status = run(book, book_len, request.ceiling, sentence, request.count);
+        status = run(book, book_len, &request, sentence);
     free(sentence);
     return status;
 }

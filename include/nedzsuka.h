@@ -8,6 +8,11 @@
    Which call is for what: nedzsuka_run_book for a book that is still edited; nedzsuka_run_table for a table that is used once;
    nedzsuka_load_table, once, and then nedzsuka_run_loaded for a table that is run on every sentence.
 
+   A slice that holds several sentences, a paragraph, is for nedzsuka_compile_ending and nedzsuka_run_book_ending: they take an end tag,
+   the number of the full stop. The slice is cut after each end tag, the rules are applied to each piece by itself, and the pieces are
+   joined. A table that was compiled with an end tag does the same; its runs are those of any table. An end tag of 255 is none: the
+   slice is one sentence, as for nedzsuka_compile and nedzsuka_run_book.
+
    What holds of every call
    - For any bytes, numbers and slices it ends, with a result or with a numbered refusal, and which one is fixed by what it was given.
    - The answer is one number: the result's length or count times 256, plus the refusal, 0 for none. On a refusal the upper part is 0;
@@ -43,8 +48,8 @@
 #include <stdint.h>
 
 /* The version, in words and as 10,000 * major + 100 * minor + patch. */
-#define NEDZSUKA_VERSION "0.2.0"
-#define NEDZSUKA_VERSION_NUMBER 200
+#define NEDZSUKA_VERSION "0.3.0"
+#define NEDZSUKA_VERSION_NUMBER 300
 
 #ifdef __cplusplus
 extern "C" {
@@ -61,6 +66,7 @@ enum nedzsuka_bound {
     NEDZSUKA_LONGEST_SENTENCE = 65535,  /* tags */
     NEDZSUKA_LONGEST_BOOK = 243,        /* bytes of a valid book: 2 + 16 * (3 + 6 * 2) + 1 */
     NEDZSUKA_LONGEST_TABLE = 2061157,   /* bytes of a well-formed table, compiled or not: 4 + 242 + 255 * 8082 + 1 */
+    NEDZSUKA_NO_END = 255,              /* the end tag of calls with none */
     NEDZSUKA_MOST_WORK = 17661952       /* entries of the work slice that are enough for every call: 16 * 256 * 49 * 88;
                                            with two bytes each 35,323,904 bytes, about 34 MiB */
 };
@@ -80,7 +86,8 @@ enum nedzsuka_refusal_number {
     NEDZSUKA_TOO_MANY_STATES = 10,   /* compile: the first i rules need more states than the ceiling; i is the answer's value */
     NEDZSUKA_SHORT_OUTPUT = 11,      /* every call with an output slice: it is shorter than the result */
     NEDZSUKA_BAD_TABLE = 12,         /* table: not well formed; loaded table: its numbers make no result of the sentence */
-    NEDZSUKA_LONG_SENTENCE = 13      /* sentence: longer than 65,535 tags */
+    NEDZSUKA_LONG_SENTENCE = 13,     /* sentence: longer than 65,535 tags */
+    NEDZSUKA_BAD_END = 14            /* calls with an end tag: the book cannot be used with it */
 };
 
 /* Compiles a book to its smallest table and answers the table's length in bytes.
@@ -103,10 +110,21 @@ enum nedzsuka_refusal_number {
    nedzsuka_work_entries and nedzsuka_table_bytes, below, give lengths of work and out that are enough; nedzsuka_read_book gives the K
    and the number of rules that they ask for. Time and memory grow with the ceiling, whatever the number of states is in the end.
 
-   The work slice keeps its numbers on the refusals before 10 (8, 1 to 7 and 9). On 10, on 11 and with a result its first
+   The work slice keeps its numbers on the refusals before 10 (8, 1 to 7, 14 and 9). On 10, on 11 and with a result its first
    16 * ceiling * (K + 1) * (5 * m + 8) entries are zero and the rest unchanged. What it holds before the call plays no part. */
 uint64_t nedzsuka_compile(const uint8_t *book, size_t book_len, uint64_t ceiling, uint16_t *work, size_t work_len, uint8_t *out,
                           size_t out_len);
+
+/* Compiles a book whose sentences end with the tag end, or NEDZSUKA_NO_END for none: as nedzsuka_compile, which is the call with
+   NEDZSUKA_NO_END, with the joined result for what the book makes of a sentence. So the table is the smallest for that; a leading part
+   is looked at with the end tag too; and two books over equally many tags that compile, each with its own end tag, get the same bytes
+   exactly if they make the same of every sentence with it.
+
+   Refusals, in this order: 8, 1 to 7, 14, 9, 10, 11, as for nedzsuka_compile, and
+   - 14: end is neither below the book's K nor 255; or end is a tag of a pattern before its last place; or a rule changes end, or puts
+     it. The upper part is 0, and the work slice and the output slice keep what they had. */
+uint64_t nedzsuka_compile_ending(const uint8_t *book, size_t book_len, uint8_t end, uint64_t ceiling, uint16_t *work, size_t work_len,
+                                 uint8_t *out, size_t out_len);
 
 /* Runs a book over a sentence, one tag a byte: what its rules leave, applied in order, goes to the front of out and is as long as the
    sentence. Answers the number of places at which sentence and result differ: two changes that undo one another count as none.
@@ -119,6 +137,13 @@ uint64_t nedzsuka_compile(const uint8_t *book, size_t book_len, uint64_t ceiling
 uint64_t nedzsuka_run_book(const uint8_t *book, size_t book_len, const uint8_t *sentence, size_t sentence_len, uint8_t *out,
                            size_t out_len);
 
+/* Runs a book over a slice of sentences that end with the tag end, or NEDZSUKA_NO_END for none: as nedzsuka_run_book, which is the call
+   with NEDZSUKA_NO_END, with the joined result of the pieces. What comes after the last end tag is a piece too.
+
+   Refusals, in this order: 1 to 7, 14, 13, 4, 11, as for nedzsuka_run_book and nedzsuka_compile_ending. */
+uint64_t nedzsuka_run_book_ending(const uint8_t *book, size_t book_len, uint8_t end, const uint8_t *sentence, size_t sentence_len,
+                                  uint8_t *out, size_t out_len);
+
 /* Reads a book and answers K * 256 + the number of its rules.
 
    Refusals: 1 to 7, as for nedzsuka_compile. The upper part is the byte at which the refusal is given, counted from 0; book_len where
@@ -127,7 +152,7 @@ uint64_t nedzsuka_read_book(const uint8_t *book, size_t book_len);
 
 /* Runs a table over a sentence, one tag a byte: what the transducer puts out, its final word included, goes to the front of out and is
    as long as the sentence. Answers the number of places at which sentence and result differ. For a compiled table the answer and
-   the result are those of its book.
+   the result are those of its book, with the end tag that it was compiled with.
 
    Refusals, in this order:
    - 12: the table is not well formed.
@@ -205,6 +230,7 @@ static inline const char *nedzsuka_in_words(unsigned refusal)
         "the output slice is too short",
         "the table is not well formed, or the loaded one makes no result of the sentence",
         "the sentence is longer than 65,535 tags",
+        "the end tag is no tag of the book, or stands in a pattern before its last place, or a rule changes or makes it",
     };
 
     return refusal < sizeof words / sizeof *words ? words[refusal] : "unknown refusal";

@@ -7,6 +7,7 @@ use mathlib.Core.Logic.{inl, inr}
 use mathlib.Core.List.{List}
 use lib.ListN.{length}
 use Rattle.limits.specs.Limits.{longest-pattern}
+use Rattle.words.specs.Pieces.{piecewise}
 use Rattle.cascades.specs.Rule.{Rule}
 use Rattle.cascades.specs.Rewrite.{apply}
 use Rattle.transducers.specs.Table.{shape}
@@ -29,7 +30,7 @@ use Rattle.number.specs.Order.{Classed}
 use Rattle.number.specs.Numbering.{Rows-notes, Numbered}
 use Rattle.addition.specs.Addition.{rule-rows, Addable, more, Added}
 
-module _ (g : Grid) (W : List ℕ) (n ceiling : ℕ) (r : Rule) (ok : Addable g W n ceiling r) where
+module _ (g : Grid) (W : List ℕ) (n ceiling end : ℕ) (r : Rule) (ok : Addable g W n ceiling end r) where
   abbrev k : ℕ
   k = g .tags
 
@@ -40,7 +41,7 @@ module _ (g : Grid) (W : List ℕ) (n ceiling : ℕ) (r : Rule) (ok : Addable g 
   most = ok .most + five
 
   abbrev makes : List ℕ → List ℕ
-  makes = λ w. apply r (ok .makes w)
+  makes = λ w. piecewise end (apply r) (ok .makes w)
 
   pub room : Room g W r
   room =
@@ -54,18 +55,18 @@ module _ (g : Grid) (W : List ℕ) (n ceiling : ℕ) (r : Rule) (ok : Addable g 
   rule-fits = omega (arith, ok .valid .short, ok .rows, ok .some)
 
   -- the rule's table has been written to its rows
-  module _ (X : List ℕ) (m : ℕ) (ruled : Ruled g W X (rule-rows ceiling) m r) where
+  module _ (X : List ℕ) (m : ℕ) (ruled : Ruled g W X (rule-rows ceiling) m end r) where
     first-stands : Stands g X 0 n (ok .most) (ok .makes) (λ t. Canonical k (shape t))
     first-stands =
         stands-kept g W 0 n (ok .most) (ok .makes) _ (ok .stands) X _ (ruled .kept) (λ r' c' e' lo hi p. omega (arith, p .0, ok .few, ok .some))
 
-    second-stands : Stands g X (rule-rows ceiling) m five (apply r) Any
+    second-stands : Stands g X (rule-rows ceiling) m five (piecewise end (apply r)) Any
     second-stands = ruled .stands longest-pattern (ok .valid)
 
     first-doing : Doing k (ok .most) (ok .makes) (tableAt g X 0 n)
     first-doing = stands-doing g X 0 n _ _ _ first-stands
 
-    second-doing : Doing k five (apply r) (tableAt g X (rule-rows ceiling) m)
+    second-doing : Doing k five (piecewise end (apply r)) (tableAt g X (rule-rows ceiling) m)
     second-doing = stands-doing g X (rule-rows ceiling) m _ _ _ second-stands
 
     product-fits : ceiling + n * m ≤ rule-rows ceiling
@@ -94,7 +95,7 @@ module _ (g : Grid) (W : List ℕ) (n ceiling : ℕ) (r : Rule) (ok : Addable g 
     -- the composition stands in the rows from the ceiling
     module _ (Y : List ℕ) (count : ℕ) (composed : Composed g X Y 0 n (rule-rows ceiling) m ceiling count) where
       composed-stands : Stands g Y ceiling count most makes Any
-      composed-stands = composed .stands (ok .most) five (ok .makes) (apply r) first-doing second-doing
+      composed-stands = composed .stands (ok .most) five (ok .makes) (piecewise end (apply r)) first-doing second-doing
 
       count-rows : ceiling + count ≤ rule-rows ceiling
       count-rows = omega (arith, composed .few, product-fits)
@@ -141,10 +142,10 @@ module _ (g : Grid) (W : List ℕ) (n ceiling : ℕ) (r : Rule) (ok : Addable g 
             good : Good k (ok .most) (ok .makes) (tableAt g W 0 n)
             good = record { doing = stands-doing g W 0 n _ _ _ (ok .stands); canonical = stands-so g W 0 n _ _ _ (ok .stands) }
 
-            last-is : last .table ≡ more g W n r
+            last-is : last .table ≡ more g W n end r
             last-is =
-                good-only k most makes (more g W n r)
-                (good-add k (ok .most) five (ok .makes) (apply r) (tableAt g W 0 n) (ruleTable k r) good (doing-rule longest-pattern k r (ok .valid)))
+                good-only k most makes (more g W n end r)
+                (good-add k (ok .most) five (ok .makes) (piecewise end (apply r)) (tableAt g W 0 n) (ruleTable k end r) good (doing-rule longest-pattern k end r (ok .valid)))
                 (last .table) (last .doing .rows) (last .so) (last .doing .does)
 
             all-rows : Kept g W U (In-rows 0 (g .rows))
@@ -163,7 +164,7 @@ module _ (g : Grid) (W : List ℕ) (n ceiling : ℕ) (r : Rule) (ok : Addable g 
                 inside r' c' e' (inl p) = (omega arith, omega (arith, p .1, ok .rows, ok .some))
                 inside r' c' e' (inr p) = (omega arith, omega (arith, p .1, count-rows, ok .rows, ok .some))
 
-            pub added : Added g W U n ceiling r total
+            pub added : Added g W U n ceiling end r total
             added =
                 record {
                   count-is = sym (last .long) ∙ ap length last-is;

@@ -1,10 +1,12 @@
 -- One more rule: the table in the rows from 0 becomes the one with the rule added, if that has no more states than the ceiling.
 use Prim.Native.Nat.{ℕ, _+_, _-_, _*_, _≤_, _<_}
 use mathlib.Core.Path.{_≡_}
+use mathlib.Core.Bool.{false}
 use mathlib.Core.List.{List}
 use lib.ListN.{length}
 use Rattle.limits.specs.Limits.{longest-pattern}
 use Rattle.cascades.specs.Rule.{Rule, ValidRule}
+use Rattle.cascades.specs.Ending.{before}
 use Rattle.transducers.specs.Table.{Table, shape}
 use Rattle.transducers.specs.Canonical.{Canonical}
 use Rattle.minimal.specs.OneRule.{ruleTable}
@@ -20,7 +22,7 @@ abbrev pub rule-rows : ℕ → ℕ
 rule-rows ceiling = (longest-pattern + 2) * ceiling
 
 -- the rows from 0 hold a canonical table, there is room for its composition with the rule, and its states can be noted
-pub record Addable (g : Grid) (W : List ℕ) (n ceiling : ℕ) (r : Rule) : Type 0 where
+pub record Addable (g : Grid) (W : List ℕ) (n ceiling end : ℕ) (r : Rule) : Type 0 where
   pub sized : Sized g W
   pub rows : rule-rows ceiling + (longest-pattern + 1) ≤ g .rows
   pub some : 1 ≤ ceiling
@@ -31,12 +33,13 @@ pub record Addable (g : Grid) (W : List ℕ) (n ceiling : ℕ) (r : Rule) : Type
   pub stands : Stands g W 0 n most makes (λ t. Canonical (g .tags) (shape t))
   pub deep : Fits g FINAL (most + (longest-pattern - 1))
   pub valid : ValidRule longest-pattern (g .tags) r
+  pub free : before end (r .pattern) ≡ false
 
-abbrev pub more : Grid → List ℕ → ℕ → Rule → Table
-more g W n r = add (g .tags) (tableAt g W 0 n) (ruleTable (g .tags) r)
+abbrev pub more : Grid → List ℕ → ℕ → ℕ → Rule → Table
+more g W n end r = add (g .tags) (tableAt g W 0 n) (ruleTable (g .tags) end r)
 
 -- the number of states of the table with the rule added, and that table if the states are no more than the ceiling
-pub record Added (g : Grid) (W X : List ℕ) (n ceiling : ℕ) (r : Rule) (count : ℕ) : Type 0 where
-  pub count-is : count ≡ length (more g W n r)
+pub record Added (g : Grid) (W X : List ℕ) (n ceiling end : ℕ) (r : Rule) (count : ℕ) : Type 0 where
+  pub count-is : count ≡ length (more g W n end r)
   pub kept : Kept g W X (In-rows 0 (g .rows))
-  pub holds : count ≤ ceiling → Holds g X 0 (more g W n r)
+  pub holds : count ≤ ceiling → Holds g X 0 (more g W n end r)

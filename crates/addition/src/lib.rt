@@ -7,13 +7,20 @@ ghost use Rattle.addition.specs.Addition.{Addable, Added};
 
 // Adds a rule to the table in the first n rows: the number of states. The table with the rule stands in the rows from 0 if they are no
 // more than the ceiling. The composition is made in the rows from the ceiling, and there is room for it up to the rule's transducer.
-pub fn add_rule(work: &mut [u16], g: Grid, n: usize, ceiling: usize, rule: Rule) -> usize
+pub fn add_rule(
+    work: &mut [u16],
+    g: Grid,
+    n: usize,
+    ceiling: usize,
+    rule: Rule,
+    end: usize,
+) -> usize
     requires { ⌜ Formed rule ⌝ }
-    requires { ⌜ Addable g (now work) n ceiling (ruleOf rule) ⌝ }
-    ensures { λ count. ⌜ Added g (now (work .entry)) (now (work .exit)) n ceiling (ruleOf rule) count ⌝ }
+    requires { ⌜ Addable g (now work) n ceiling end (ruleOf rule) ⌝ }
+    ensures { λ count. ⌜ Added g (now (work .entry)) (now (work .exit)) n ceiling end (ruleOf rule) count ⌝ }
 {
     let second = (PATTERN + 2) * ceiling;
-    let m = onerule::write_rule(work, g, second, rule);
+    let m = onerule::write_rule(work, g, second, rule, end);
     let count = compose::compose(work, g, 0, n, second, m, ceiling);
     normalize::normalize(work, g, ceiling, count);
     merge::merge(work, g, ceiling, count);

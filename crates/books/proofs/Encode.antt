@@ -8,11 +8,11 @@ use mathlib.Core.List.{List, [], _∷_, _++_, reverse, append-nil, append-assoc,
 use borrow.Author.Tests.{lt-ltb, le-leb, ne-eqb, ltb-true, leb-true, eqb-true, eqb-false}
 use lib.Dec.{eqb, leb, ltb}
 use lib.ListN.{length, getD, length-append, length-reverse}
-use Rattle.limits.specs.Limits.{fewest-tags, most-tags, most-rules, longest-pattern}
+use Rattle.limits.specs.Limits.{fewest-tags, most-tags, most-rules, longest-pattern, no-end}
 use Rattle.answers.specs.Outcome.{Place, Outcome, result, refused, nothing, byte, andThen, provided}
 use Rattle.words.specs.Word.{Below}
 use Rattle.words.proofs.Word.{below-append}
-use Rattle.cascades.specs.Rule.{Rule, Cascade, ValidRule, ValidRules}
+use Rattle.cascades.specs.Rule.{Rule, Cascade, ValidRule, ValidRules, ending}
 use Rattle.books.specs.Book.{Valid, encodePattern, encodeRule, encodeRules, encode}
 use Rattle.books.specs.Read.{Stage, opening, size, command, place, new-tag, pattern-tag, ended, closed, closing, nextTag, nextRule, below, opened, longer, step, finish, readFrom, read}
 
@@ -51,7 +51,7 @@ accepts-pattern k r rs (a ∷ u) rest c h b f =
     (subst (λ (p : List ℕ). Accepts (command k (with-pattern r p ∷ rs)) rest c) (sym (append-assoc (r .pattern) (a ∷ []) u)) f)))
 
 abbrev pub cascade : ℕ → List Rule → Cascade
-cascade k rs = record { tags = k; rules = rs }
+cascade k rs = record { tags = k; rules = rs; end = no-end }
 
 -- the commands from a place where the last rule may be closed
 accepts-rules : (k : ℕ) (rs more : List Rule) → closing rs ≡ result tt → length rs + length more ≤ most-rules → ValidRules longest-pattern k more
@@ -81,11 +81,14 @@ accepts-rules k rs (r ∷ more) z h v =
 pub reads-encoding : (c : Cascade) → Valid c → read (encode c) ≡ result c
 reads-encoding c v =
     let k = c .tags in
+    let read-as = cascade k (c .rules) in
     let body : List ℕ = encodeRules (c .rules) ++ (0x00 ∷ []) in
-    accepts-next opening size 0x20 (k ∷ body) c refl
-    (accepts-next size (command k []) k body c
+    let same : read-as ≡ c = ap (λ (e : ℕ). ending e c) (sym (v .no-end-tag)) in
+    accepts-next opening size 0x20 (k ∷ body) read-as refl
+    (accepts-next size (command k []) k body read-as
     (cc (le-leb fewest-tags k (v .enough-tags), le-leb k most-tags (v .few-tags)))
     (accepts-rules k [] (c .rules) refl (omega (arith, v .few-rules)) (v .rules-valid))) 0
+    ∙ ap result same
 
 -- ---- what is read is an encoding
 
@@ -298,6 +301,7 @@ read-ends (ended k rs) at c h e =
         few-tags = h .0 .few;
         few-rules = subst (λ (n : ℕ). n ≤ most-rules) (sym (length-reverse rs)) (h .1);
         rules-valid = valid-reverse longest-pattern k rs (h .2);
+        no-end-tag = refl;
       },
       cc (append-nil (read-so-far (ended k rs)), down-reverse rs),
     )

@@ -1,5 +1,6 @@
 -- Laws of books.
 pub mod Encode
+pub mod Ending
 pub mod Refusal
 pub mod Arrays
 pub mod Commands

@@ -5,7 +5,7 @@ use mathlib.Core.Path.{_≡_}
 use mathlib.Core.List.{List, [], _∷_, reverse}
 use lib.ListN.{length, getD, take}
 use denote.Ref.{RefT}
-use Rattle.limits.specs.Limits.{most-rules, longest-pattern}
+use Rattle.limits.specs.Limits.{most-rules, longest-pattern, no-end}
 use Rattle.cascades.specs.Rule.{Rule, ValidRule, Cascade}
 
 pub record Arrays : Type 0 where
@@ -48,7 +48,7 @@ abbrev pub rulesOf : Arrays → ℕ → List Rule
 rulesOf a n = reverse (rulesDown a n)
 
 abbrev pub cascadeOf : ℕ → Arrays → ℕ → Cascade
-cascadeOf k a n = record { tags = k; rules = rulesOf a n }
+cascadeOf k a n = record { tags = k; rules = rulesOf a n; end = no-end }
 
 -- the arrays hold m rules that are valid over k tags
 pub record RulesHeld (k m : ℕ) (a : Arrays) : Type 0 where

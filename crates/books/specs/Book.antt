@@ -1,8 +1,9 @@
 -- Valid books, and their bytes (document 01, "Bytes of a book").
 use Prim.Native.Nat.{ℕ, _≤_}
+use mathlib.Core.Path.{_≡_}
 use mathlib.Core.List.{List, [], _∷_, _++_}
 use lib.ListN.{length}
-use Rattle.limits.specs.Limits.{fewest-tags, most-tags, most-rules, longest-pattern}
+use Rattle.limits.specs.Limits.{fewest-tags, most-tags, most-rules, longest-pattern, no-end}
 use Rattle.cascades.specs.Rule.{Rule, Cascade, ValidCascade}
 
 -- "K 2 to 48; at most 16 rules", each with "a pattern u of 1 to 6 tags"
@@ -11,6 +12,8 @@ pub record Valid (b : Cascade) : Type 0 where
   pub few-tags : b .tags ≤ most-tags
   pub few-rules : length (b .rules) ≤ most-rules
   pub rules-valid : ValidCascade longest-pattern b
+  -- a book's bytes have no end tag: a call names it
+  pub no-end-tag : b .end ≡ no-end
 
 -- "22, then a tag (1 byte). The next tag of the pattern"
 abbrev pub encodePattern : List ℕ → List ℕ

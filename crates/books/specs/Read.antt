@@ -5,7 +5,7 @@ use mathlib.Core.Bool.{true, false, not, _&&_}
 use mathlib.Core.List.{List, [], _∷_, _++_, reverse}
 use lib.Dec.{eqb, leb, ltb}
 use lib.ListN.{length, getD}
-use Rattle.limits.specs.Limits.{fewest-tags, most-tags, most-rules, longest-pattern}
+use Rattle.limits.specs.Limits.{fewest-tags, most-tags, most-rules, longest-pattern, no-end}
 use Rattle.answers.specs.Outcome.{Outcome, result, refused, nothing, byte, andThen, provided}
 use Rattle.cascades.specs.Rule.{Rule, Cascade}
 
@@ -78,7 +78,7 @@ finish (command k rs) at = refused 1 (byte at)
 finish (place k rs) at = refused 1 (byte at)
 finish (new-tag k rs p) at = refused 1 (byte at)
 finish (pattern-tag k r rs) at = refused 1 (byte at)
-finish (ended k rs) at = result (record { tags = k; rules = reverse rs })
+finish (ended k rs) at = result (record { tags = k; rules = reverse rs; end = no-end })
 
 -- "In a book the refusal at the earliest byte is given", and names it
 abbrev pub readFrom : Stage → ℕ → List ℕ → Outcome Cascade

@@ -6,6 +6,7 @@ use mathlib.Core.List.{List, [], _∷_}
 use borrow.Author.Tests.{le-leb, lt-leb}
 use lib.ListN.{length}
 use lib.Seq.{sets-eq}
+use Rattle.words.proofs.Word.{below-mono}
 use Rattle.answers.specs.Outcome.{refused, nothing}
 use Rattle.answers.specs.Slice.{fitting}
 use Rattle.workspace.specs.declared.Grid.{Grid}
@@ -24,10 +25,6 @@ use Rattle.answers.specs.declared.CompileAnswer.the-variants.{Table}
 pub rows-in : (g : Grid) (W : List ℕ) (base n : ℕ) → rowsIn g W base n ≡ tableAt g W base n
 unfolding tableAt
 rows-in g W base n = refl
-
-below-mono : (k m : ℕ) (w : List ℕ) → k ≤ m → Below k w → Below m w
-below-mono k m [] h b = tt
-below-mono k m (a ∷ w) h b = (omega (arith, b .0), below-mono k m w h (b .1))
 
 -- what rows that hold a table need to be written as bytes
 module _ (g : Grid) (W : List ℕ) (n : ℕ) (ok : Ready g W 0 n) (tags : g .tags < 0x100) (deep : g .depth ≤ 0x100) where

@@ -4,15 +4,21 @@ use native.Mathlib.Omega.{arith}
 use native.Mathlib.Numerals.{add-one}
 use mathlib.Core.Path.{_≡_, refl, sym, ap, _∙_, subst}
 use mathlib.Core.List.{List, [], _∷_, _++_, reverse-cons, append-assoc, append-nil}
+use mathlib.Core.Bool.{false, _||_}
 use borrow.Author.Tests.{le-leb, lt-leb}
-use lib.ListN.{length}
+use lib.Dec.{eqb}
+use lib.ListN.{length, getD}
 use Rattle.limits.specs.Limits.{longest-pattern}
 use Rattle.answers.specs.Outcome.{Outcome, refused, rule, andThen}
 use Rattle.answers.specs.Slice.{fitting}
-use Rattle.cascades.specs.Rule.{Rule, ValidRule, ValidRules, having}
+use Rattle.cascades.specs.Rule.{Rule, ValidRule, ValidRules, Cascade, having, ending}
+use Rattle.cascades.specs.Ending.{before, misused}
+use Rattle.cascades.specs.Spares.{Spares, Spare}
+use Rattle.cascades.proofs.Ending.{no-or, spares-used}
 use Rattle.cascades.specs.Rewrite.{behavior}
 use Rattle.books.specs.Arrays.{Arrays, ruleAt, rulesDown, rulesOf, cascadeOf}
 use Rattle.books.proofs.Held.{rules-long}
+use Rattle.endings.proofs.Ending.{rule-used}
 use Rattle.transducers.specs.Table.{Table}
 use Rattle.transducers.specs.Tabulate.{table}
 use Rattle.minimal.specs.TableOf.{identity, addRule, tableOf}
@@ -33,19 +39,23 @@ use Rattle.answers.specs.declared.CompileAnswer.{CompileAnswer}
 abbrev held-by : ℕ → ℕ
 held-by i = (longest-pattern - 1) * i
 
+-- the first i rules of the arrays, with the end tag
+abbrev pub cut : ℕ → ℕ → Arrays → ℕ → Cascade
+cut end k a i = ending end (cascadeOf k a i)
+
 -- n rules of the arrays from the i-th on
 abbrev pub from : Arrays → ℕ → ℕ → List Rule
 from a i zero = []
 from a i (suc n) = ruleAt a i ∷ from a (suc i) n
 
 -- the first i rules are done: the rows from 0 hold their table of n states, and compiling goes on from there
-pub record Progress (g : Grid) (W X : List ℕ) (ceiling m : ℕ) (a : Arrays) (i n : ℕ) : Type 0 where
+pub record Progress (g : Grid) (W X : List ℕ) (ceiling end m : ℕ) (a : Arrays) (i n : ℕ) : Type 0 where
   pub kept : Kept g W X (In-rows 0 (g .rows))
   pub inside : i ≤ m
   pub few : n ≤ ceiling
-  pub long : length (tableOf (cascadeOf (g .tags) a i)) ≡ n
-  pub holds : Holds g X 0 (tableOf (cascadeOf (g .tags) a i))
-  pub goes-on : compileCascade ceiling (cascadeOf (g .tags) a m) ≡ withRules (g .tags) ceiling i (tableOf (cascadeOf (g .tags) a i)) (from a i (m - i))
+  pub long : length (tableOf (cut end (g .tags) a i)) ≡ n
+  pub holds : Holds g X 0 (tableOf (cut end (g .tags) a i))
+  pub goes-on : compileCascade ceiling (cut end (g .tags) a m) ≡ withRules (g .tags) end ceiling i (tableOf (cut end (g .tags) a i)) (from a i (m - i))
 
 rules-next : (a : Arrays) (i : ℕ) → rulesOf a (suc i) ≡ rulesOf a i ++ (ruleAt a i ∷ [])
 rules-next a i = reverse-cons (ruleAt a i) (rulesDown a i)
@@ -61,12 +71,20 @@ valid-append : (l k : ℕ) (rs : List Rule) (r : Rule) → ValidRules l k rs →
 valid-append l k [] r v h = (h, tt)
 valid-append l k (s ∷ rs) r v h = (v .0, valid-append l k rs r (v .1) h)
 
+spare-append : (e : ℕ) (rs : List Rule) (r : Rule) → Spare e rs → Spares e r → Spare e (rs ++ (r ∷ []))
+spare-append e [] r v h = (h, tt)
+spare-append e (s ∷ rs) r v h = (v .0, spare-append e rs r (v .1) h)
+
+-- 14 is given for no rule
+pub used : (g : Grid) (W : List ℕ) (ceiling end m : ℕ) (a : Arrays) → Compilable g W ceiling end m a → (i : ℕ) → i < m → misused end (ruleAt a i) ≡ false
+used g W ceiling end m a ok = rule-used (g .tags) m end a (ok .readable .tags) (ok .readable .held) (ok .fits)
+
 -- one more rule in the definition
-module _ (k c i : ℕ) (t u : Table) (r : Rule) (rs more : List Rule) (e : more ≡ r ∷ rs) (f : addRule k t r ≡ u) where
-  with-next : length u ≤ c → withRules k c i t more ≡ withRules k c (i + 1) u rs
+module _ (k end c i : ℕ) (t u : Table) (r : Rule) (rs more : List Rule) (e : more ≡ r ∷ rs) (f : addRule k end t r ≡ u) where
+  with-next : length u ≤ c → withRules k end c i t more ≡ withRules k end c (i + 1) u rs
   with-next h = cc (e, f, le-leb (length u) c h, add-one i)
 
-  with-over : c < length u → withRules k c i t more ≡ refused 10 (rule (i + 1))
+  with-over : c < length u → withRules k end c i t more ≡ refused 10 (rule (i + 1))
   with-over h = cc (e, f, lt-leb (length u) c h, add-one i)
 
 -- a refusal that names the rule
@@ -80,10 +98,10 @@ all-kept g W X Y some first rest =
     (kept-wider g (In-rows 0 (g .rows)) (In-rows 0 1) W X first (λ r c e p. (omega arith, omega (arith, p .1)))) rest
 
 -- after the identity's row
-pub begun : (g : Grid) (W X : List ℕ) (ceiling m : ℕ) (a : Arrays) → Compilable g W ceiling m a → length X ≡ length W → Compilable g X ceiling m a
-begun g W X ceiling m a ok long = record { sized = sized-kept g W X (ok .sized) long; rows = ok .rows; depth = ok .depth; readable = ok .readable }
+pub begun : (g : Grid) (W X : List ℕ) (ceiling end m : ℕ) (a : Arrays) → Compilable g W ceiling end m a → length X ≡ length W → Compilable g X ceiling end m a
+begun g W X ceiling end m a ok long = record { sized = sized-kept g W X (ok .sized) long; rows = ok .rows; depth = ok .depth; readable = ok .readable; fits = ok .fits }
 
-module _ (g : Grid) (W : List ℕ) (ceiling m : ℕ) (a : Arrays) (ok : Compilable g W ceiling m a) where
+module _ (g : Grid) (W : List ℕ) (ceiling end m : ℕ) (a : Arrays) (ok : Compilable g W ceiling end m a) where
   abbrev k : ℕ
   k = g .tags
 
@@ -92,11 +110,16 @@ module _ (g : Grid) (W : List ℕ) (ceiling m : ℕ) (a : Arrays) (ok : Compilab
   valid-upto (suc i) h =
       subst (ValidRules longest-pattern k) (sym (rules-next a i)) (valid-append longest-pattern k (rulesOf a i) (ruleAt a i) (valid-upto i (omega arith)) (ok .readable .held .valid i (omega arith)))
 
-  good-upto : (i : ℕ) → i ≤ m → Good k (held-by i) (behavior (cascadeOf k a i)) (tableOf (cascadeOf k a i))
-  good-upto i h = let e : held-by (length (rulesOf a i)) ≡ held-by i = ap held-by (rules-long a i) in rw (← e) (good longest-pattern (cascadeOf k a i) (valid-upto i h))
+  spare-upto : (i : ℕ) → i ≤ m → Spare end (rulesOf a i)
+  spare-upto zero h = tt
+  spare-upto (suc i) h =
+      subst (Spare end) (sym (rules-next a i)) (spare-append end (rulesOf a i) (ruleAt a i) (spare-upto i (omega arith)) (spares-used end (ruleAt a i) (used g W ceiling end m a ok i (omega arith))))
+
+  good-upto : (i : ℕ) → i ≤ m → Good k (held-by i) (behavior (cut end k a i)) (tableOf (cut end k a i))
+  good-upto i h = let e : held-by (length (rulesOf a i)) ≡ held-by i = ap held-by (rules-long a i) in rw (← e) (good longest-pattern (cut end k a i) (valid-upto i h) (spare-upto i h))
 
   -- no rule is done
-  pub progress-start : Holds g W 0 (table k identity) → Progress g W W ceiling m a 0 1
+  pub progress-start : Holds g W 0 (table k identity) → Progress g W W ceiling end m a 0 1
   progress-start holds =
       record {
         kept = kept-none g (In-rows 0 (g .rows)) W;
@@ -107,19 +130,19 @@ module _ (g : Grid) (W : List ℕ) (ceiling m : ℕ) (a : Arrays) (ok : Compilab
         goes-on =
             let e : 0 + m ≡ m = omega arith in
             let z : m - 0 ≡ m = omega arith in
-            ap (withRules k ceiling 0 (table k identity)) (sym (rules-from a m 0 ∙ ap (rulesOf a) e) ∙ ap (from a 0) (sym z));
+            ap (withRules k end ceiling 0 (table k identity)) (sym (rules-from a m 0 ∙ ap (rulesOf a) e) ∙ ap (from a 0) (sym z));
       }
 
-  module _ (X : List ℕ) (i n : ℕ) (p : Progress g W X ceiling m a i n) where
-    at-is : tableAt g X 0 n ≡ tableOf (cascadeOf k a i)
-    at-is = table-at g X 0 n (tableOf (cascadeOf k a i)) (p .holds) (p .long)
+  module _ (X : List ℕ) (i n : ℕ) (p : Progress g W X ceiling end m a i n) where
+    at-is : tableAt g X 0 n ≡ tableOf (cut end k a i)
+    at-is = table-at g X 0 n (tableOf (cut end k a i)) (p .holds) (p .long)
 
     sized-now : Sized g X
     sized-now = sized-kept g W X (ok .sized) (p .kept .long)
 
     -- any valid rule can be added next
-    pub addable : i < m → (r : Rule) → ValidRule longest-pattern k r → Addable g X n ceiling r
-    addable h r v =
+    pub addable : i < m → (r : Rule) → ValidRule longest-pattern k r → misused end r ≡ false → Addable g X n ceiling end r
+    addable h r v used =
         let t = good-upto i (omega arith) in
         record {
           sized = sized-now;
@@ -128,31 +151,32 @@ module _ (g : Grid) (W : List ℕ) (ceiling m : ℕ) (a : Arrays) (ok : Compilab
           small = omega (arith, ok .readable .most);
           few = p .few;
           most = held-by i;
-          makes = behavior (cascadeOf k a i);
-          stands = record { made = record { table = tableOf (cascadeOf k a i); long = p .long; doing = t .doing; so = t .canonical }; holds = p .holds };
+          makes = behavior (cut end k a i);
+          stands = record { made = record { table = tableOf (cut end k a i); long = p .long; doing = t .doing; so = t .canonical }; holds = p .holds };
           deep = omega (arith, ok .depth);
           valid = v;
+          free = no-or (before end (r .pattern)) (eqb (getD (r .pattern) (r .place) 0) end || eqb (r .tag) end) used .0;
         }
 
-    module _ (h : i < m) (Y : List ℕ) (count : ℕ) (added : Added g X Y n ceiling (ruleAt a i) count) where
-      more-is : more g X n (ruleAt a i) ≡ tableOf (cascadeOf k a (i + 1))
+    module _ (h : i < m) (Y : List ℕ) (count : ℕ) (added : Added g X Y n ceiling end (ruleAt a i) count) where
+      more-is : more g X n end (ruleAt a i) ≡ tableOf (cut end k a (i + 1))
       more-is =
-          ap (λ (t : Table). addRule k t (ruleAt a i)) at-is ∙ sym (tableOf-append (cascadeOf k a i) (rulesOf a i) (ruleAt a i))
-          ∙ ap (λ (rs : List Rule). tableOf (having (cascadeOf k a i) rs)) (sym (rules-next a i)) ∙ ap (λ (j : ℕ). tableOf (cascadeOf k a j)) (sym (add-one i))
+          ap (λ (t : Table). addRule k end t (ruleAt a i)) at-is ∙ sym (tableOf-append (cut end k a i) (rulesOf a i) (ruleAt a i))
+          ∙ ap (λ (rs : List Rule). tableOf (having (cut end k a i) rs)) (sym (rules-next a i)) ∙ ap (λ (j : ℕ). tableOf (cut end k a j)) (sym (add-one i))
 
       kept-now : Kept g W Y (In-rows 0 (g .rows))
       kept-now = kept-then g (In-rows 0 (g .rows)) W X Y (p .kept) (added .kept)
 
-      next-is : addRule k (tableOf (cascadeOf k a i)) (ruleAt a i) ≡ tableOf (cascadeOf k a (i + 1))
-      next-is = ap (λ (t : Table). addRule k t (ruleAt a i)) (sym at-is) ∙ more-is
+      next-is : addRule k end (tableOf (cut end k a i)) (ruleAt a i) ≡ tableOf (cut end k a (i + 1))
+      next-is = ap (λ (t : Table). addRule k end t (ruleAt a i)) (sym at-is) ∙ more-is
 
       rest : from a i (m - i) ≡ ruleAt a i ∷ from a (i + 1) (m - (i + 1))
       rest = let e : m - i ≡ suc (m - (i + 1)) = omega arith in cc (e, add-one i)
 
-      count-is : length (tableOf (cascadeOf k a (i + 1))) ≡ count
+      count-is : length (tableOf (cut end k a (i + 1))) ≡ count
       count-is = ap length (sym more-is) ∙ sym (added .count-is)
 
-      pub progress-next : count ≤ ceiling → Progress g W Y ceiling m a (i + 1) count
+      pub progress-next : count ≤ ceiling → Progress g W Y ceiling end m a (i + 1) count
       progress-next few =
           record {
             kept = kept-now;
@@ -162,15 +186,15 @@ module _ (g : Grid) (W : List ℕ) (ceiling m : ℕ) (a : Arrays) (ok : Compilab
             holds = rw (← more-is) (added .holds few);
             goes-on =
                 p .goes-on
-                ∙ with-next k ceiling i (tableOf (cascadeOf k a i)) (tableOf (cascadeOf k a (i + 1))) (ruleAt a i) (from a (i + 1) (m - (i + 1))) (from a i (m - i)) rest next-is
+                ∙ with-next k end ceiling i (tableOf (cut end k a i)) (tableOf (cut end k a (i + 1))) (ruleAt a i) (from a (i + 1) (m - (i + 1))) (from a i (m - i)) rest next-is
                 (omega (arith, count-is));
           }
 
-      pub too-many : ceiling < count → (room : ℕ) → built ceiling room (cascadeOf k a m) ≡ refused 10 (rule (i + 1))
+      pub too-many : ceiling < count → (room : ℕ) → built ceiling room (cut end k a m) ≡ refused 10 (rule (i + 1))
       too-many many room =
           ap (λ (o : Outcome Table). andThen o (λ t. fitting room (encode k t)))
           (p .goes-on
-          ∙ with-over k ceiling i (tableOf (cascadeOf k a i)) (tableOf (cascadeOf k a (i + 1))) (ruleAt a i) (from a (i + 1) (m - (i + 1))) (from a i (m - i)) rest next-is
+          ∙ with-over k end ceiling i (tableOf (cut end k a i)) (tableOf (cut end k a (i + 1))) (ruleAt a i) (from a (i + 1) (m - (i + 1))) (from a i (m - i)) rest next-is
           (omega (arith, count-is)))
 
       pub kept-too-many : Kept g W Y (In-rows 0 (g .rows))
@@ -183,7 +207,7 @@ module _ (g : Grid) (W : List ℕ) (ceiling m : ℕ) (a : Arrays) (ok : Compilab
           sized = sized-now;
           inside = omega (arith, p .few, ok .rows);
           small = omega (arith, p .few, ok .readable .most);
-          holds = holds-at g X 0 n (tableOf (cascadeOf k a i)) (p .holds) (p .long);
+          holds = holds-at g X 0 n (tableOf (cut end k a i)) (p .holds) (p .long);
           sound = rw at-is (t .doing .sound);
           most = held-by i;
           held = rw at-is (t .doing .held);
@@ -191,8 +215,9 @@ module _ (g : Grid) (W : List ℕ) (ceiling m : ℕ) (a : Arrays) (ok : Compilab
         }
 
     -- all rules are done
-    pub outcome-is : m ≤ i → (room : ℕ) → built ceiling room (cascadeOf k a m) ≡ fitting room (encode k (tableAt g X 0 n))
+    pub outcome-is : m ≤ i → (room : ℕ) → built ceiling room (cut end k a m) ≡ fitting room (encode k (tableAt g X 0 n))
     outcome-is h room =
-        let last : i ≡ m = omega (arith, p .inside) in
         let e : m - i ≡ 0 = omega arith in
-        cc (p .goes-on, e, at-is)
+        ap (λ (o : Outcome Table). andThen o (λ t. fitting room (encode k t)))
+        (p .goes-on ∙ ap (λ (j : ℕ). withRules k end ceiling i (tableOf (cut end k a i)) (from a i j)) e)
+        ∙ ap (λ (t : Table). fitting room (encode k t)) (sym at-is)

@@ -1,13 +1,16 @@
 -- Compiling the rules that the reader's arrays hold.
 use Prim.Native.Nat.{ℕ, _≤_}
 use mathlib.Core.Path.{_≡_}
+use mathlib.Core.Bool.{false}
 use mathlib.Core.List.{List}
 use Rattle.limits.specs.Limits.{most-states, most-tags, work-rows, work-depth}
 use Rattle.answers.specs.Outcome.{Outcome}
 use Rattle.answers.specs.Slice.{longOf, written}
 use Rattle.answers.specs.Answer.{compileOutcome}
 use Rattle.answers.specs.declared.CompileAnswer.{CompileAnswer}
-use Rattle.books.specs.Arrays.{Arrays, RulesHeld}
+use Rattle.cascades.specs.Rule.{ending}
+use Rattle.cascades.specs.Ending.{badEnd}
+use Rattle.books.specs.Arrays.{Arrays, cascadeOf, RulesHeld}
 use Rattle.workspace.specs.declared.Grid.{Grid}
 use Rattle.workspace.specs.Cells.{Sized}
 
@@ -23,9 +26,10 @@ pub record Readable (k ceiling m : ℕ) (a : Arrays) : Type 0 where
   pub tags : k ≤ most-tags
   pub held : RulesHeld k m a
 
--- and the rows have the size that document 01 gives them
-pub record Compilable (g : Grid) (W : List ℕ) (ceiling m : ℕ) (a : Arrays) : Type 0 where
+-- and the rows have the size that document 01 gives them, and 14 is not given
+pub record Compilable (g : Grid) (W : List ℕ) (ceiling end m : ℕ) (a : Arrays) : Type 0 where
   pub sized : Sized g W
   pub rows : g .rows ≡ work-rows ceiling
   pub depth : g .depth ≡ work-depth m
   pub readable : Readable (g .tags) ceiling m a
+  pub fits : badEnd (ending end (cascadeOf (g .tags) a m)) ≡ false

@@ -11,6 +11,7 @@ ghost use lib.ListN.{length};
 ghost use Rattle.answers.specs.Slice.{fitting};
 ghost use Rattle.tables.specs.Bytes.{encode};
 ghost use Rattle.compilation.specs.Compile.{built};
+ghost use Rattle.cascades.specs.Rule.{ending};
 ghost use Rattle.books.specs.Arrays.{arrays, cascadeOf};
 ghost use Rattle.workspace.specs.Cells.{Kept, In-rows};
 ghost use Rattle.workspace.specs.Holds.{Ready, tableAt};
@@ -35,14 +36,15 @@ pub fn build(
     work: &mut [u16],
     g: Grid,
     ceiling: usize,
+    end: usize,
     m: usize,
     rows: &[[u8; PATTERN]; RULES],
     lengths: &[usize; RULES],
     heads: &[[u8; HEAD]; RULES],
     out: &mut [u8],
 ) -> CompileAnswer
-    requires { ⌜ Compilable g (now work) ceiling m (arrays rows lengths heads) ⌝ }
-    ensures gave { λ r. ⌜ Gave (built ceiling (length (now (out .entry))) (cascadeOf (g .tags) (arrays (rows .entry) (lengths .entry) (heads .entry)) m)) (now (out .entry)) (now (out .exit)) r ⌝ }
+    requires { ⌜ Compilable g (now work) ceiling end m (arrays rows lengths heads) ⌝ }
+    ensures gave { λ r. ⌜ Gave (built ceiling (length (now (out .entry))) (ending end (cascadeOf (g .tags) (arrays (rows .entry) (lengths .entry) (heads .entry)) m))) (now (out .entry)) (now (out .exit)) r ⌝ }
     ensures kept { λ r. ⌜ Kept g (now (work .entry)) (now (work .exit)) (In-rows 0 (g .rows)) ⌝ }
 {
     identity::write_identity(work, g);
@@ -50,7 +52,7 @@ pub fn build(
     let mut i = 0;
     while i < m {
         let rule = books::rule_at(rows, lengths, heads, i);
-        let count = addition::add_rule(work, g, n, ceiling, rule);
+        let count = addition::add_rule(work, g, n, ceiling, rule, end);
         if ceiling < count {
             return CompileAnswer::Refused(Refusal::AtRule {
                 number: 10,

@@ -2,4 +2,6 @@
 pub mod Rule
 pub mod Value
 pub mod Rewrite
+pub mod Ending
 pub mod Leftmost
+pub mod Spares

@@ -4,6 +4,7 @@ use mathlib.Core.Bool.{true, false}
 use mathlib.Core.List.{List, [], _∷_, _++_}
 use lib.ListN.{length, drop}
 use Rattle.words.specs.Word.{prefix}
+use Rattle.words.specs.Pieces.{piecewise}
 use Rattle.cascades.specs.Rule.{Rule, replaced, Cascade}
 
 -- "If u occurs in a sentence, its leftmost occurrence becomes v, once; otherwise the sentence is unchanged".
@@ -20,6 +21,7 @@ abbrev pub applyAll : List Rule → List ℕ → List ℕ
 applyAll [] w = w
 applyAll (r ∷ rs) w = applyAll rs (apply r w)
 
--- 002's behavior of a cascade
+-- 002's behavior of a cascade, with an end tag: "The slice is cut after each end tag; each piece is rewritten by itself and the pieces are
+-- joined" (document 02, W1)
 abbrev pub behavior : Cascade → List ℕ → List ℕ
-behavior c w = applyAll (c .rules) w
+behavior c w = piecewise (c .end) (applyAll (c .rules)) w

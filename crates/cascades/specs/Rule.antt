@@ -27,14 +27,20 @@ abbrev pub ValidRules : ℕ → ℕ → List Rule → Type 0
 ValidRules l k [] = Unit {0}
 ValidRules l k (r ∷ rs) = ValidRule l k r × ValidRules l k rs
 
--- a book's rules in order, over its K tags (document 01's "book"; 002's cascade with its tag set)
+-- a book's rules in order, over its K tags (document 01's "book"; 002's cascade with its tag set), and the end tag of the call, 255 for none
+-- (document 02, W1)
 pub record Cascade : Type 0 where
   pub tags : ℕ
   pub rules : List Rule
+  pub end : ℕ
 
 -- the same with other rules
 abbrev pub having : Cascade → List Rule → Cascade
-having c rs = record { tags = c .tags; rules = rs }
+having c rs = record { tags = c .tags; rules = rs; end = c .end }
+
+-- the same with another end tag: "one book with two end tags counts as two books"
+abbrev pub ending : ℕ → Cascade → Cascade
+ending e c = record { tags = c .tags; rules = c .rules; end = e }
 
 -- "A leading part is the first i rules taken as a book"
 abbrev pub leading : ℕ → Cascade → Cascade

@@ -3,7 +3,7 @@ use Prim.Native.Nat.{ℕ, suc, _-_, _≤_, _<_}
 use native.Mathlib.Omega.{arith}
 use native.Mathlib.Decide.{decLt}
 use mathlib.Core.Path.{_≡_, refl, sym, ap, _∙_, subst}
-use mathlib.Core.Bool.{Bool, true, false, _&&_}
+use mathlib.Core.Bool.{Bool, true, false, not, _&&_}
 use mathlib.Core.List.{List, [], _∷_, _++_, append-assoc, append-nil}
 use borrow.Author.Tests.{leb-true, le-leb, lt-leb}
 use lib.Dec.{leb}
@@ -11,10 +11,11 @@ use lib.ListN.{length, take, length-append}
 use lib.Seq.{take-at}
 use Rattle.limits.specs.Limits.{most-states, longest-pattern}
 use Rattle.answers.specs.Outcome.{Outcome, result, refused, nothing, byte, rule, andThen, provided}
-use Rattle.cascades.specs.Rule.{Rule, Cascade, having, leading}
-use Rattle.books.specs.Book.{Valid}
+use Rattle.cascades.specs.Rule.{Rule, Cascade, having, ending, leading}
+use Rattle.cascades.specs.Ending.{badEnd}
 use Rattle.books.specs.Read.{read}
-use Rattle.books.proofs.Encode.{reads-exactly}
+use Rattle.books.specs.Ending.{fitted, readEnding, ValidEnding}
+use Rattle.books.proofs.Ending.{valid-spare, reads-ending}
 use Rattle.books.proofs.Refusal.{BookRefusal, book-refusal}
 use Rattle.transducers.specs.Table.{Table}
 use Rattle.minimal.specs.TableOf.{addRule, tableOf}
@@ -48,22 +49,22 @@ few-next n c m f h j a b = by (decLt j (suc m))
     by (yes l) = f j a (omega arith)
     by (no l) = let e : suc m ≡ j = omega arith in subst (λ (i : ℕ). length (tableOf (leading i c)) ≤ n) e h
 
-module _ (k n : ℕ) (done : List Rule) (r : Rule) (rs : List Rule) (t : Table) where
+module _ (k end n : ℕ) (done : List Rule) (r : Rule) (rs : List Rule) (t : Table) where
   -- the table with one more rule has too many states: 10 names as many rules as there are with it
-  with-over : n < length (addRule k t r) → withRules k n (length done) t (r ∷ rs) ≡ refused 10 (rule (length (done ++ (r ∷ []))))
+  with-over : n < length (addRule k end t r) → withRules k end n (length done) t (r ∷ rs) ≡ refused 10 (rule (length (done ++ (r ∷ []))))
   with-over h =
       let l : length (done ++ (r ∷ [])) ≡ suc (length done) = length-append done (r ∷ []) ∙ (omega arith) in
-      cc (l, lt-leb (length (addRule k t r)) n h)
+      cc (l, lt-leb (length (addRule k end t r)) n h)
 
   -- or not: it goes on with that table
-  with-next : length (addRule k t r) ≤ n → withRules k n (length done) t (r ∷ rs) ≡ withRules k n (length (done ++ (r ∷ []))) (addRule k t r) rs
+  with-next : length (addRule k end t r) ≤ n → withRules k end n (length done) t (r ∷ rs) ≡ withRules k end n (length (done ++ (r ∷ []))) (addRule k end t r) rs
   with-next h =
       let l : length (done ++ (r ∷ [])) ≡ suc (length done) = length-append done (r ∷ []) ∙ (omega arith) in
-      cc (l, le-leb (length (addRule k t r)) n h)
+      cc (l, le-leb (length (addRule k end t r)) n h)
 
 -- after the rules `done`
 told-from : (n : ℕ) (c : Cascade) (done rs : List Rule) (t : Table) → t ≡ tableOf (having c done) → Few n (having c (done ++ rs)) (length done)
-    → Told n (having c (done ++ rs)) (withRules (c .tags) n (length done) t rs)
+    → Told n (having c (done ++ rs)) (withRules (c .tags) (c .end) n (length done) t rs)
 told-from n c done [] t e f =
     let l : length (done ++ []) ≡ length done = ap length (append-nil done) in
     let a : tableOf (having c (done ++ [])) ≡ t = ap (λ (x : List Rule). tableOf (having c x)) (append-nil done) ∙ sym e in
@@ -74,10 +75,10 @@ told-from n c done (r ∷ rs) t e f = by (decLt n (length u)) (told-from n c par
     part = done ++ (r ∷ [])
 
     u : Table
-    u = addRule (c .tags) t r
+    u = addRule (c .tags) (c .end) t r
 
     same : u ≡ tableOf (having c part)
-    same = ap (λ (x : Table). addRule (c .tags) x r) e ∙ sym (tableOf-append c done r)
+    same = ap (λ (x : Table). addRule (c .tags) (c .end) x r) e ∙ sym (tableOf-append c done r)
 
     all : part ++ rs ≡ done ++ (r ∷ rs)
     all = append-assoc done (r ∷ []) rs
@@ -94,10 +95,10 @@ told-from n c done (r ∷ rs) t e f = by (decLt n (length u)) (told-from n c par
     count : length (tableOf (leading (length part) whole)) ≡ length u
     count = ap (λ (x : List Rule). length (tableOf (having c x))) front ∙ ap length (sym same)
 
-    by : Dec (n < length u) → (Few n (having c (part ++ rs)) (length part) → Told n (having c (part ++ rs)) (withRules (c .tags) n (length part) u rs))
-        → Told n whole (withRules (c .tags) n (length done) t (r ∷ rs))
+    by : Dec (n < length u) → (Few n (having c (part ++ rs)) (length part) → Told n (having c (part ++ rs)) (withRules (c .tags) (c .end) n (length part) u rs))
+        → Told n whole (withRules (c .tags) (c .end) n (length done) t (r ∷ rs))
     by (yes h) more =
-        subst (Told n whole) (sym (with-over (c .tags) n done r rs t h))
+        subst (Told n whole) (sym (with-over (c .tags) (c .end) n done r rs t h))
         (exceeds (length part)
         (record {
           some = omega (arith, long);
@@ -110,8 +111,8 @@ told-from n c done (r ∷ rs) t e f = by (decLt n (length u)) (told-from n c par
         let next : Few n whole (suc (length done)) =
         few-next n whole (length done) f (subst (λ (m : ℕ). length (tableOf (leading m whole)) ≤ n) long (omega (arith, count)))
         in
-        subst (Told n whole) (sym (with-next (c .tags) n done r rs t few))
-        (subst (λ (s : List Rule). Told n (having c s) (withRules (c .tags) n (length part) u rs)) all
+        subst (Told n whole) (sym (with-next (c .tags) (c .end) n done r rs t few))
+        (subst (λ (s : List Rule). Told n (having c s) (withRules (c .tags) (c .end) n (length part) u rs)) all
         (more (λ j x y. subst (λ (s : List Rule). length (tableOf (leading j (having c s))) ≤ n) (sym all) (next j x (omega (arith, long))))))
 
 pub told : (n : ℕ) (c : Cascade) → Told n c (compileCascade n c)
@@ -120,16 +121,16 @@ told n c = told-from n c [] (c .rules) (tableOf (having c [])) refl (λ j x y. a
 -- ---- the bytes of a table that fits
 
 -- a cascade's table with at most 256 states is valid
-pub table-valid : (c : Cascade) → Valid c → length (tableOf c) ≤ most-states → ValidTable (c .tags) (tableOf c)
+pub table-valid : (c : Cascade) → ValidEnding c → length (tableOf c) ≤ most-states → ValidTable (c .tags) (tableOf c)
 table-valid c v few =
-    let g = good longest-pattern c (v .rules-valid) .doing in
+    let g = good longest-pattern c (v .book-valid .rules-valid) (valid-spare c v) .doing in
     record {
-      tags-least = v .enough-tags;
-      tags-most = v .few-tags;
+      tags-least = v .book-valid .enough-tags;
+      tags-most = v .book-valid .few-tags;
       states-least = g .sound .some;
       states-most = few;
       start = g .sound .empty;
-      held = λ q h. omega (arith, g .held q h, v .few-rules);
+      held = λ q h. omega (arith, g .held q h, v .book-valid .few-rules);
       final-below = g .sound .final-below;
       whole = g .rows;
       next-below = g .sound .next-below;
@@ -140,34 +141,40 @@ table-valid c v few =
 -- ---- the stages of the answer
 
 -- the outcomes of what is tested before a state is built: a refusal that names no rule, or the cascade of a valid book
-pub data Tested (book : List ℕ) (n work : ℕ) : Outcome Cascade → Type 0 where
-  names-nothing : (j : ℕ) → 1 ≤ j → j ≤ 9 → Tested book n work (refused j nothing)
-  names-byte : (j b : ℕ) → 1 ≤ j → j ≤ 9 → Tested book n work (refused j (byte b))
-  goes-on : (c : Cascade) → Valid c → Premises book n work c → Tested book n work (result c)
+pub data Tested (book : List ℕ) (end n work : ℕ) : Outcome Cascade → Type 0 where
+  names-nothing : (j : ℕ) → 1 ≤ j → j < 256 → (j ≡ 10 → ⊥) → Tested book end n work (refused j nothing)
+  names-byte : (j b : ℕ) → 1 ≤ j → j < 256 → (j ≡ 10 → ⊥) → Tested book end n work (refused j (byte b))
+  goes-on : (c : Cascade) → ValidEnding c → Premises book end n work c → Tested book end n work (result c)
 
-pub test : (book : List ℕ) (n work : ℕ) → Tested book n work (tested book n work)
-test book n work = by-ceiling (leb 1 n) (leb n most-states) refl refl
+pub test : (book : List ℕ) (end n work : ℕ) → Tested book end n work (tested book end n work)
+test book end n work = by-ceiling (leb 1 n) (leb n most-states) refl refl
   where
-    by-entries : (c : Cascade) → read book ≡ result c → 1 ≤ n → n ≤ most-states → (b : Bool) → leb (entries n c) work ≡ b → Tested book n work (provided 9 b (result c))
-    by-entries c e s m true f = goes-on c (reads-exactly book c .0 e .0) (record { reads = e; some = s; most = m; long = leb-true (entries n c) work f })
-    by-entries c e s m false f = names-nothing 9 (omega arith) (omega arith)
+    by-entries : (c : Cascade) → readEnding book end ≡ result c → 1 ≤ n → n ≤ most-states → (b : Bool) → leb (entries n c) work ≡ b → Tested book end n work (provided 9 b (result c))
+    by-entries c e s m true f = goes-on c (reads-ending book end c e .0) (record { reads = e; some = s; most = m; long = leb-true (entries n c) work f })
+    by-entries c e s m false f = names-nothing 9 (omega arith) (omega arith) (λ z. omega (arith, z))
+
+    by-end : (c : Cascade) → read book ≡ result c → 1 ≤ n → n ≤ most-states → (b : Bool) → not (badEnd (ending end c)) ≡ b
+        → Tested book end n work (andThen (provided 14 b (result (ending end c))) (roomed n work))
+    by-end c e s m true f =
+        by-entries (ending end c) (ap (λ (o : Outcome Cascade). andThen o (fitted end)) e ∙ ap (λ (x : Bool). provided 14 x (result (ending end c))) f) s m (leb (entries n (ending end c)) work) refl
+    by-end c e s m false f = names-nothing 14 (omega arith) (omega arith) (λ z. omega (arith, z))
 
     by-book : (o : Outcome Cascade) → BookRefusal o → read book ≡ o → 1 ≤ n → n ≤ most-states
-        → Tested book n work (andThen o (roomed n work))
-    by-book (result c) x e s m = by-entries c e s m (leb (entries n c) work) refl
+        → Tested book end n work (andThen (andThen o (fitted end)) (roomed n work))
+    by-book (result c) x e s m = by-end c e s m (not (badEnd (ending end c))) refl
     by-book (refused j nothing) x e s m = absurd x
-    by-book (refused j (byte b)) x e s m = names-byte j b (x .0) (omega (arith, x .1))
+    by-book (refused j (byte b)) x e s m = names-byte j b (x .0) (omega (arith, x .1)) (λ z. omega (arith, z, x .1))
     by-book (refused j (rule i)) x e s m = absurd x
 
     by-ceiling : (a b : Bool) → leb 1 n ≡ a → leb n most-states ≡ b
-        → Tested book n work (provided 8 (a && b) (andThen (read book) (roomed n work)))
+        → Tested book end n work (provided 8 (a && b) (andThen (readEnding book end) (roomed n work)))
     by-ceiling true true e f = by-book (read book) (book-refusal book) refl (leb-true 1 n e) (leb-true n most-states f)
-    by-ceiling true false e f = names-nothing 8 (omega arith) (omega arith)
-    by-ceiling false b e f = names-nothing 8 (omega arith) (omega arith)
+    by-ceiling true false e f = names-nothing 8 (omega arith) (omega arith) (λ z. omega (arith, z))
+    by-ceiling false b e f = names-nothing 8 (omega arith) (omega arith) (λ z. omega (arith, z))
 
 -- where the premises hold, nothing before 10 is refused
-pub premises-tested : (book : List ℕ) (n work : ℕ) (c : Cascade) → Premises book n work c → tested book n work ≡ result c
-premises-tested book n work c h =
+pub premises-tested : (book : List ℕ) (end n work : ℕ) (c : Cascade) → Premises book end n work c → tested book end n work ≡ result c
+premises-tested book end n work c h =
     cc (
       h .reads,
       le-leb 1 n (h .some),
@@ -175,5 +182,5 @@ premises-tested book n work c h =
       le-leb (entries n c) work (h .long),
     )
 
-pub premises-answer : (book : List ℕ) (n work room : ℕ) (c : Cascade) → Premises book n work c → compileAnswer book n work room ≡ built n room c
-premises-answer book n work room c h = ap (λ (o : Outcome Cascade). andThen o (built n room)) (premises-tested book n work c h)
+pub premises-answer : (book : List ℕ) (end n work room : ℕ) (c : Cascade) → Premises book end n work c → compileAnswer book end n work room ≡ built n room c
+premises-answer book end n work room c h = ap (λ (o : Outcome Cascade). andThen o (built n room)) (premises-tested book end n work c h)

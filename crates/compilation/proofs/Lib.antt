@@ -1,5 +1,6 @@
 -- Theorems about compiling.
 pub mod Marked
+pub mod Examples
 pub mod Answer
 pub mod Parts
 pub mod Demand

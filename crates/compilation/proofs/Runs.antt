@@ -11,8 +11,8 @@ use Rattle.answers.proofs.Outcome.{went}
 use Rattle.sentences.specs.Run.{run}
 use Rattle.sentences.proofs.Run.{run-accepts, accepted-run, run-same}
 use Rattle.cascades.specs.Rewrite.{behavior}
-use Rattle.books.specs.Read.{read}
-use Rattle.books.proofs.Encode.{reads-exactly}
+use Rattle.books.specs.Ending.{readEnding}
+use Rattle.books.proofs.Ending.{reads-ending}
 use Rattle.tagger.specs.Run.{bookRun}
 use Rattle.transducers.specs.Transducer.{puts}
 use Rattle.transducers.specs.Table.{shape}
@@ -25,21 +25,21 @@ use Rattle.compilation.proofs.Demand.{compiled}
 
 module _ (sentence : List ℕ) (room : ℕ) (made : List ℕ) where
   -- a book's run gives a result exactly if the book is valid and the sentence not refused, and it is what the rules leave
-  pub book-makes : (book : List ℕ) → (bookRun book sentence room ≡ result made) ↔ BookMakes book sentence room made
-  book-makes book = (to, from)
+  pub book-makes : (book : List ℕ) (end : ℕ) → (bookRun book end sentence room ≡ result made) ↔ BookMakes book end sentence room made
+  book-makes book end = (to, from)
     where
-      to : bookRun book sentence room ≡ result made → BookMakes book sentence room made
+      to : bookRun book end sentence room ≡ result made → BookMakes book end sentence room made
       to e =
-          let t = went (read book) (λ b. run (b .tags) sentence room (behavior b sentence)) made e in
+          let t = went (readEnding book end) (λ b. run (b .tags) sentence room (behavior b sentence)) made e in
           let c = t .first in
           let a = run-accepts (c .tags) sentence room (behavior c sentence) made (t .then) in
           record { cascade = c; reads = t .read; accepted = a .0; made-is = a .1 }
 
-      from : BookMakes book sentence room made → bookRun book sentence room ≡ result made
+      from : BookMakes book end sentence room made → bookRun book end sentence room ≡ result made
       from h =
           let c = h .cascade in
-          let v = reads-exactly book c .0 (h .reads) .0 in
-          let r = accepted-run (c .tags) sentence room (behavior c sentence) (omega (arith, v .enough-tags)) (h .accepted) in
+          let v = reads-ending book end c (h .reads) .0 in
+          let r = accepted-run (c .tags) sentence room (behavior c sentence) (omega (arith, v .book-valid .enough-tags)) (h .accepted) in
           rw (h .reads) (r ∙ ap result (sym (h .made-is)))
 
   -- a table's run likewise: what the table's transducer puts out
@@ -61,10 +61,10 @@ module _ (sentence : List ℕ) (room : ℕ) (made : List ℕ) where
           rw (h .decodes) (r ∙ ap result (sym (h .made-is)))
 
 -- the run of a compiled table is the run of its book, for every sentence and every output slice, the refusals included
-pub same-run : (book : List ℕ) (n work room : ℕ) (bytes : List ℕ) → compileAnswer book n work room ≡ result bytes
-    → (sentence : List ℕ) (slice : ℕ) → tableRun bytes sentence slice ≡ bookRun book sentence slice
-same-run book n work room bytes e sentence slice =
-    let c = compiled book n work room bytes e in
+pub same-run : (book : List ℕ) (end n work room : ℕ) (bytes : List ℕ) → compileAnswer book end n work room ≡ result bytes
+    → (sentence : List ℕ) (slice : ℕ) → tableRun bytes sentence slice ≡ bookRun book end sentence slice
+same-run book end n work room bytes e sentence slice =
+    let c = compiled book end n work room bytes e in
     let b = c .cascade in
     let t = c .smallest .table in
     let r =

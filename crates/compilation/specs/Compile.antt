@@ -1,5 +1,5 @@
--- The answer of compile, as a function of the book's bytes, the ceiling and the lengths of the two slices: the bytes of the table, or the
--- first refusal in the order of document 01: 8, the book's, 9; then 10 with the rule, 11.
+-- The answer of compile, as a function of the book's bytes, the end tag, the ceiling and the lengths of the two slices: the bytes of the
+-- table, or the first refusal in the order of documents 01 and 02: 8, the book's, 14, 9; then 10 with the rule, 11.
 use Prim.Native.Nat.{ℕ, suc}
 use mathlib.Core.Bool.{true, false, _&&_}
 use mathlib.Core.List.{List, [], _∷_}
@@ -9,7 +9,7 @@ use Rattle.limits.specs.Limits.{most-states, work-entries}
 use Rattle.answers.specs.Outcome.{Outcome, result, refused, rule, andThen, provided}
 use Rattle.answers.specs.Slice.{fitting}
 use Rattle.cascades.specs.Rule.{Rule, Cascade}
-use Rattle.books.specs.Read.{read}
+use Rattle.books.specs.Ending.{readEnding}
 use Rattle.transducers.specs.Table.{Table}
 use Rattle.transducers.specs.Tabulate.{table}
 use Rattle.minimal.specs.TableOf.{identity, addRule}
@@ -23,24 +23,24 @@ entries n c = work-entries n (c .tags) (length (c .rules))
 abbrev pub roomed : ℕ → ℕ → Cascade → Outcome Cascade
 roomed n work c = provided 9 (leb (entries n c) work) (result c)
 
--- what is tested before a state is built: "8: ceiling outside 1 to 256", the book's refusals, 9
-abbrev pub tested : List ℕ → ℕ → ℕ → Outcome Cascade
-tested book n work = provided 8 (leb 1 n && leb n most-states) (andThen (read book) (roomed n work))
+-- what is tested before a state is built: "8: ceiling outside 1 to 256", the book's refusals, 14, 9
+abbrev pub tested : List ℕ → ℕ → ℕ → ℕ → Outcome Cascade
+tested book end n work = provided 8 (leb 1 n && leb n most-states) (andThen (readEnding book end) (roomed n work))
 
 -- the rules one by one, after the first i of them, whose table is t: "10 with i: the first i rules need more than N states in every
 -- machine, i the least such"
-abbrev pub withRules : ℕ → ℕ → ℕ → Table → List Rule → Outcome Table
-withRules k n i t [] = result t
-withRules k n i t (r ∷ rs) =
-    let u = addRule k t r in
-    elim (leb (length u) n) [ true ↦ withRules k n (suc i) u rs | false ↦ refused 10 (rule (suc i)) ]
+abbrev pub withRules : ℕ → ℕ → ℕ → ℕ → Table → List Rule → Outcome Table
+withRules k end n i t [] = result t
+withRules k end n i t (r ∷ rs) =
+    let u = addRule k end t r in
+    elim (leb (length u) n) [ true ↦ withRules k end n (suc i) u rs | false ↦ refused 10 (rule (suc i)) ]
 
 abbrev pub compileCascade : ℕ → Cascade → Outcome Table
-compileCascade n c = withRules (c .tags) n 0 (table (c .tags) identity) (c .rules)
+compileCascade n c = withRules (c .tags) (c .end) n 0 (table (c .tags) identity) (c .rules)
 
 -- what becomes of a cascade: 10, 11 or the bytes of its table
 abbrev pub built : ℕ → ℕ → Cascade → Outcome (List ℕ)
 built n room c = andThen (compileCascade n c) (λ t. fitting room (encode (c .tags) t))
 
-abbrev pub compileAnswer : List ℕ → ℕ → ℕ → ℕ → Outcome (List ℕ)
-compileAnswer book n work room = andThen (tested book n work) (built n room)
+abbrev pub compileAnswer : List ℕ → ℕ → ℕ → ℕ → ℕ → Outcome (List ℕ)
+compileAnswer book end n work room = andThen (tested book end n work) (built n room)

@@ -9,7 +9,7 @@ use Rattle.answers.specs.Outcome.{result}
 use Rattle.sentences.specs.Run.{Accepted}
 use Rattle.cascades.specs.Rule.{Cascade, leading}
 use Rattle.cascades.specs.Rewrite.{behavior}
-use Rattle.books.specs.Read.{read}
+use Rattle.books.specs.Ending.{readEnding}
 use Rattle.transducers.specs.Transducer.{puts, Transducer, turns}
 use Rattle.transducers.specs.Table.{Table, shape}
 use Rattle.transducers.specs.Numbered.{AsReached}
@@ -36,14 +36,14 @@ pub record Shortest (c : Cascade) (n i : ℕ) : Type 0 where
   pub part : PartNeedsMore c n i
   pub least : (j : ℕ) → PartNeedsMore c n j → i ≤ j
 
--- two books over equally many tags make the same of every sentence
+-- two books over equally many tags, each with its end tag, make the same of every sentence
 abbrev pub Alike : Cascade → Cascade → Type 0
 Alike c d = (w : List ℕ) → Below (c .tags) w → behavior c w ≡ behavior d w
 
--- what comes before the states: a valid book, whose bytes are read as the cascade; a ceiling in its range; and "A work slice is long enough
+-- what comes before the states: a valid book, whose bytes are read as the cascade with the call's end tag; a ceiling in its range; and "A work slice is long enough
 -- if it has the entries under Bounds"
-pub record Premises (book : List ℕ) (n work : ℕ) (c : Cascade) : Type 0 where
-  pub reads : read book ≡ result c
+pub record Premises (book : List ℕ) (end n work : ℕ) (c : Cascade) : Type 0 where
+  pub reads : readEnding book end ≡ result c
   pub some : 1 ≤ n
   pub most : n ≤ most-states
   pub long : entries n c ≤ work
@@ -60,21 +60,21 @@ pub record SmallestTable (c : Cascade) (bytes : List ℕ) : Type 0 where
   pub numbered : AsReached (c .tags) (shape table)
 
 -- the bytes are the smallest table of the book
-pub record Compiled (book : List ℕ) (n work : ℕ) (bytes : List ℕ) : Type 0 where
+pub record Compiled (book : List ℕ) (end n work : ℕ) (bytes : List ℕ) : Type 0 where
   pub cascade : Cascade
-  pub premises : Premises book n work cascade
+  pub premises : Premises book end n work cascade
   pub smallest : SmallestTable cascade bytes
 
 -- the first i rules of the book are the shortest leading part that needs more than n states
-pub record Named (book : List ℕ) (n work i : ℕ) : Type 0 where
+pub record Named (book : List ℕ) (end n work i : ℕ) : Type 0 where
   pub cascade : Cascade
-  pub premises : Premises book n work cascade
+  pub premises : Premises book end n work cascade
   pub shortest : Shortest cascade n i
 
 -- the book's rules make this of a sentence that is not refused
-pub record BookMakes (book sentence : List ℕ) (room : ℕ) (made : List ℕ) : Type 0 where
+pub record BookMakes (book : List ℕ) (end : ℕ) (sentence : List ℕ) (room : ℕ) (made : List ℕ) : Type 0 where
   pub cascade : Cascade
-  pub reads : read book ≡ result cascade
+  pub reads : readEnding book end ≡ result cascade
   pub accepted : Accepted (cascade .tags) sentence room
   pub made-is : made ≡ behavior cascade sentence
 

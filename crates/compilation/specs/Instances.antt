@@ -4,7 +4,7 @@ use mathlib.Core.Bool.{Bool, true, false, _&&_}
 use mathlib.Core.List.{List, [], _∷_}
 use lib.Dec.{eqb}
 use lib.ListN.{length, getD}
-use Rattle.limits.specs.Limits.{most-tags, most-rules, most-states, work-entries}
+use Rattle.limits.specs.Limits.{most-tags, most-rules, most-states, no-end, work-entries}
 use Rattle.words.specs.Word.{differences, same}
 use Rattle.answers.specs.Outcome.{Outcome, result, refused, nothing, byte, rule}
 use Rattle.cascades.specs.Rule.{Rule, Cascade}
@@ -74,10 +74,10 @@ abbrev pub long-out : ℕ
 long-out = 65536
 
 abbrev pub holds : Instance → Bool
-holds (turns book sentence made changes) = gives (bookRun book sentence (length sentence)) made && eqb (differences sentence made) changes
-holds (needs-more book n i) = gives-10 (compileAnswer book n long-work long-out) i
-holds (compiles book n bytes) = gives (compileAnswer book n long-work long-out) bytes
-holds (states book s p) = carries (compileAnswer book most-states long-work long-out) s && multiplied (read book) p
+holds (turns book sentence made changes) = gives (bookRun book no-end sentence (length sentence)) made && eqb (differences sentence made) changes
+holds (needs-more book n i) = gives-10 (compileAnswer book no-end n long-work long-out) i
+holds (compiles book n bytes) = gives (compileAnswer book no-end n long-work long-out) bytes
+holds (states book s p) = carries (compileAnswer book no-end most-states long-work long-out) s && multiplied (read book) p
 
 abbrev pub instances : List Instance
 instances =

@@ -14,7 +14,7 @@ use Rattle.answers.specs.declared.Refusal.the-variants.{AtByte, AtRule, Bare}
 use Rattle.answers.specs.declared.RunAnswer.{RunAnswer}
 use Rattle.sentences.specs.Run.{changed, Ran}
 use Rattle.cascades.specs.Rule.{Cascade}
-use Rattle.books.specs.Read.{read}
+use Rattle.books.specs.Ending.{readEnding}
 use Rattle.tagger.specs.Run.{bookRun}
 use Rattle.tables.specs.Run.{tableRun}
 use Rattle.compilation.specs.Compile.{compileAnswer}
@@ -26,9 +26,9 @@ use Rattle.answers.specs.declared.CompileAnswer.{CompileAnswer}
 use Rattle.answers.specs.declared.CompileAnswer.the-variants.{Table, Refused}
 
 -- what the contract says of a call's answer and output slice
-pub record Call (book : List ℕ) (n : ℕ) (work before after : List ℕ) (answer : CompileAnswer) : Type 0 where
-  pub answered : compileOutcome answer ≡ longOf (compileAnswer book n (length work) (length before))
-  pub wrote : after ≡ written (compileAnswer book n (length work) (length before)) before
+pub record Call (book : List ℕ) (end n : ℕ) (work before after : List ℕ) (answer : CompileAnswer) : Type 0 where
+  pub answered : compileOutcome answer ≡ longOf (compileAnswer book end n (length work) (length before))
+  pub wrote : after ≡ written (compileAnswer book end n (length work) (length before)) before
 
 -- ---- which answer stands for which outcome
 
@@ -52,28 +52,28 @@ outcome-bare j (Refused (Bare k)) e = cc
 
 -- ---- the clauses
 
-module _ (book : List ℕ) (n : ℕ) (work before after : List ℕ) (answer : CompileAnswer) (call : Call book n work before after answer) where
-  outcome-is : (s : ℕ) → answer ≡ Table s → compileAnswer book n (length work) (length before) ≡ result (take s after)
+module _ (book : List ℕ) (end n : ℕ) (work before after : List ℕ) (answer : CompileAnswer) (call : Call book end n work before after answer) where
+  outcome-is : (s : ℕ) → answer ≡ Table s → compileAnswer book end n (length work) (length before) ≡ result (take s after)
   outcome-is s e =
-      front-result s before after (compileAnswer book n (length work) (length before)) (ap compileOutcome (sym e) ∙ call .answered) (call .wrote)
+      front-result s before after (compileAnswer book end n (length work) (length before)) (ap compileOutcome (sym e) ∙ call .answered) (call .wrote)
 
   -- the first s bytes of the output slice are the smallest table of the book, early and numbered
-  pub table-is : (s : ℕ) → answer ≡ Table s → Compiled book n (length work) (take s after)
-  table-is s e = demand.compiled book n (length work) (length before) (take s after) (outcome-is s e)
+  pub table-is : (s : ℕ) → answer ≡ Table s → Compiled book end n (length work) (take s after)
+  table-is s e = demand.compiled book end n (length work) (length before) (take s after) (outcome-is s e)
 
   -- 10 with i is answered exactly if the first i rules are the shortest leading part that needs more than n states in every machine
-  pub rule-named : (i : ℕ) → (answer ≡ Refused (AtRule 10 i)) ↔ Named book n (length work) i
+  pub rule-named : (i : ℕ) → (answer ≡ Refused (AtRule 10 i)) ↔ Named book end n (length work) i
   rule-named i =
-      let d = demand.refused-10 book n (length work) (length before) i in (
-        λ e. d .0 (long-rule 10 i (compileAnswer book n (length work) (length before)) (ap compileOutcome (sym e) ∙ call .answered)),
+      let d = demand.refused-10 book end n (length work) (length before) i in (
+        λ e. d .0 (long-rule 10 i (compileAnswer book end n (length work) (length before)) (ap compileOutcome (sym e) ∙ call .answered)),
         λ h. outcome-rule 10 i answer (call .answered ∙ ap longOf (d .1 h)),
       )
 
-  module _ (c : Cascade) (p : Premises book n (length work) c) where
+  module _ (c : Cascade) (p : Premises book end n (length work) c) where
     -- 10 is answered if any leading part needs more, and names the shortest
     pub some-part : (j : ℕ) → PartNeedsMore c n j → (i : ℕ) × Shortest c n i × (answer ≡ Refused (AtRule 10 i))
     some-part j h =
-        let d = demand.some-part book n (length work) (length before) c p j h in
+        let d = demand.some-part book end n (length work) (length before) c p j h in
         (d .0, d .1, outcome-rule 10 (d .0) answer (call .answered ∙ ap longOf (d .2)))
 
     -- where none does there is a smallest table: its bytes stand at the front of the output slice and their number is the answer, or
@@ -84,7 +84,7 @@ module _ (book : List ℕ) (n : ℕ) (work before after : List ℕ) (answer : Co
         × (length bytes ≤ length before → (answer ≡ Table (length bytes)) × (after ≡ bytes ++ drop (length bytes) before))
         × (length before < length bytes → (answer ≡ Refused (Bare 11)) × (after ≡ before))
     otherwise none =
-        let d = demand.otherwise book n (length work) (length before) c p none in (
+        let d = demand.otherwise book end n (length work) (length before) c p none in (
           d .0,
           d .1,
           λ l. (
@@ -101,20 +101,20 @@ module _ (book : List ℕ) (n : ℕ) (work before after : List ℕ) (answer : Co
   pub same-run : (s : ℕ) → answer ≡ Table s → (sentence out : List ℕ)
       → (by-table by-book : List ℕ) (table-answer book-answer : RunAnswer)
       → Ran (tableRun (take s after) sentence (length out)) sentence out by-table table-answer
-      → Ran (bookRun book sentence (length out)) sentence out by-book book-answer
+      → Ran (bookRun book end sentence (length out)) sentence out by-book book-answer
       → (runOutcome table-answer ≡ runOutcome book-answer) × (by-table ≡ by-book)
   same-run s e sentence out by-table by-book x y r q =
-      let same = runs.same-run book n (length work) (length before) (take s after) (outcome-is s e) sentence (length out) in (
+      let same = runs.same-run book end n (length work) (length before) (take s after) (outcome-is s e) sentence (length out) in (
         r .answered ∙ ap (changed sentence) same ∙ sym (q .answered),
         r .wrote ∙ ap (λ (o : Outcome (List ℕ)). written o out) same ∙ sym (q .wrote),
       )
 
--- two books over equally many tags that compile get the same bytes exactly if they behave alike
-pub same-bytes : (book book' : List ℕ) (n n' : ℕ) (work work' before before' after after' : List ℕ) (s s' : ℕ) (c d : Cascade)
-    → read book ≡ result c → read book' ≡ result d → c .tags ≡ d .tags
-    → Call book n work before after (Table s) → Call book' n' work' before' after' (Table s')
+-- two books over equally many tags, each with its end tag, that compile get the same bytes exactly if they behave alike
+pub same-bytes : (book book' : List ℕ) (end end' n n' : ℕ) (work work' before before' after after' : List ℕ) (s s' : ℕ) (c d : Cascade)
+    → readEnding book end ≡ result c → readEnding book' end' ≡ result d → c .tags ≡ d .tags
+    → Call book end n work before after (Table s) → Call book' end' n' work' before' after' (Table s')
     → (take s after ≡ take s' after') ↔ Alike c d
-same-bytes book book' n n' work work' before before' after after' s s' c d r q k a b =
-    demand.same-bytes book book' n n' (length work) (length work') (length before) (length before') (take s after) (take s' after') c d r q k
-    (outcome-is book n work before after (Table s) a s refl)
-    (outcome-is book' n' work' before' after' (Table s') b s' refl)
+same-bytes book book' end end' n n' work work' before before' after after' s s' c d r q k a b =
+    demand.same-bytes book book' end end' n n' (length work) (length work') (length before) (length before') (take s after) (take s' after') c d r q k
+    (outcome-is book end n work before after (Table s) a s refl)
+    (outcome-is book' end' n' work' before' after' (Table s') b s' refl)

@@ -3,8 +3,8 @@ use Prim.Native.Nat.{ℕ, zero, suc, _+_, _-_, _*_, _≤_, _<_}
 use native.Mathlib.Omega.{arith}
 use native.Mathlib.Decide.{decLt}
 use native.Mathlib.Nat.{mul-le-mul-left, suc-mul}
-use mathlib.Core.Path.{_≡_, refl, sym, ap, _∙_, subst}
-use mathlib.Core.Bool.{Bool, true, false, _&&_}
+use mathlib.Core.Path.{_≡_, refl, sym, ap, ap₂, _∙_, subst}
+use mathlib.Core.Bool.{Bool, true, false, not, _&&_}
 use mathlib.Core.List.{List, _++_}
 use borrow.Author.Tests.{le-leb, lt-leb}
 use lib.Dec.{leb}
@@ -16,9 +16,11 @@ use Rattle.answers.specs.Slice.{longOf, written}
 use Rattle.answers.specs.Answer.{refusal}
 use Rattle.answers.specs.declared.Refusal.{Refusal}
 use Rattle.answers.specs.declared.Refusal.the-variants.{AtByte, AtRule, Bare}
-use Rattle.cascades.specs.Rule.{Cascade}
+use Rattle.cascades.specs.Rule.{Cascade, ending}
+use Rattle.cascades.specs.Ending.{badEnd}
 use Rattle.books.specs.Arrays.{Arrays, cascadeOf}
 use Rattle.books.specs.Read.{read}
+use Rattle.books.specs.Ending.{fitted, readEnding}
 use Rattle.books.specs.Resume.{Whole}
 use Rattle.books.specs.declared.BookAnswer.{BookAnswer}
 use Rattle.books.specs.declared.BookAnswer.the-variants.{Book}
@@ -44,9 +46,9 @@ product-small a b c ha hb hc =
 abbrev pub gridOf : ℕ → ℕ → ℕ → Grid
 gridOf k ceiling m = record { rows = work-rows ceiling; tags = k; depth = work-depth m }
 
-pub compilable : (k ceiling m : ℕ) (a : Arrays) (W : List ℕ) → Readable k ceiling m a → work-entries ceiling k m ≤ length W
-    → Compilable (gridOf k ceiling m) W ceiling m a
-compilable k ceiling m a W ok room =
+pub compilable : (k ceiling end m : ℕ) (a : Arrays) (W : List ℕ) → Readable k ceiling m a → badEnd (ending end (cascadeOf k a m)) ≡ false
+    → work-entries ceiling k m ≤ length W → Compilable (gridOf k ceiling m) W ceiling end m a
+compilable k ceiling end m a W ok fits room =
     record {
       sized =
           record {
@@ -58,6 +60,7 @@ compilable k ceiling m a W ok room =
       rows = refl;
       depth = refl;
       readable = ok;
+      fits = fits;
     }
 
 -- ---- the entries after the rows
@@ -105,32 +108,38 @@ pub refused-ended : (t : Outcome Cascade) (n j : ℕ) (p : Place) → t ≡ refu
     → (W out : List ℕ) → Ended t n W W out out r
 refused-ended t n j p e r f W out = record { gave = record { answered = cc (e, f); wrote = cc (e) }; worked-is = cc (e) }
 
--- the rules that have been read, with t for their number of tags in code
-module _ (k ceiling m : ℕ) (a : Arrays) (ok : Readable k ceiling m a) (t : ℕ) (e : t ≡ k) where
-  pub readable : Readable t ceiling m a
-  readable = subst (λ (n : ℕ). Readable n ceiling m a) (sym e) ok
+-- the rules that have been read, with t for their number of tags in code and l for the end tag
+module _ (k ceiling end m : ℕ) (a : Arrays) (t : ℕ) (e : t ≡ k) where
+  abbrev pub read-with : ℕ → ℕ → Cascade
+  read-with n i = ending i (cascadeOf n a m)
+
+  module _ (ok : Readable k ceiling m a) (fits : badEnd (read-with k end) ≡ false) (l : ℕ) (f : l ≡ end) where
+    pub in-code : Readable t ceiling m a × (badEnd (read-with t l) ≡ false)
+    in-code = (subst (λ (n : ℕ). Readable n ceiling m a) (sym e) ok, ap₂ (λ n i. badEnd (read-with n i)) e f ∙ fits)
 
   abbrev all : ℕ
   all = work-entries ceiling t m
 
-  all-are : all ≡ entries ceiling (cascadeOf k a m)
+  all-are : all ≡ entries ceiling (read-with k end)
   all-are = ap (λ (n : ℕ). work-entries ceiling n m) e ∙ ap (work-entries ceiling k) (sym (rules-long a m))
 
   pub short : (W out : List ℕ) → length W < all → (r : CompileAnswer) → compileOutcome r ≡ refused 9 nothing
-      → Ended (roomed ceiling (length W) (cascadeOf k a m)) ceiling W W out out r
+      → Ended (roomed ceiling (length W) (read-with k end)) ceiling W W out out r
   short W out h r f =
-      let less : length W < entries ceiling (cascadeOf k a m) = subst (λ (n : ℕ). length W < n) all-are h in
-      let is : roomed ceiling (length W) (cascadeOf k a m) ≡ refused 9 nothing = cc (lt-leb (entries ceiling (cascadeOf k a m)) (length W) less) in
-      refused-ended (roomed ceiling (length W) (cascadeOf k a m)) ceiling 9 nothing is r f W out
+      let c = read-with k end in
+      let less : length W < entries ceiling c = subst (λ (n : ℕ). length W < n) all-are h in
+      let is : roomed ceiling (length W) c ≡ refused 9 nothing = cc (lt-leb (entries ceiling c) (length W) less) in
+      refused-ended (roomed ceiling (length W) c) ceiling 9 nothing is r f W out
 
-  pub ended : (W X Y out after : List ℕ) (r : CompileAnswer) → all ≤ length W → Gave (built ceiling (length out) (cascadeOf t a m)) out after r
+  pub ended : (l : ℕ) → l ≡ end → (W X Y out after : List ℕ) (r : CompileAnswer) → all ≤ length W
+      → Gave (built ceiling (length out) (read-with t l)) out after r
       → Kept (gridOf t ceiling m) W X (In-rows 0 (work-rows ceiling)) → Y ≡ replicate all 0 ++ drop all X
-      → Ended (roomed ceiling (length W) (cascadeOf k a m)) ceiling W Y out after r
-  ended W X Y out after r h gave kept wiped =
-      let c = cascadeOf k a m in
+      → Ended (roomed ceiling (length W) (read-with k end)) ceiling W Y out after r
+  ended l f W X Y out after r h gave kept wiped =
+      let c = read-with k end in
       let enough : entries ceiling c ≤ length W = subst (λ (n : ℕ). n ≤ length W) all-are h in
       let is : roomed ceiling (length W) c ≡ result c = cc (le-leb (entries ceiling c) (length W) enough) in
-      let done : Gave (built ceiling (length out) c) out after r = subst (λ (n : ℕ). Gave (built ceiling (length out) (cascadeOf n a m)) out after r) e gave in
+      let done : Gave (built ceiling (length out) c) out after r = subst (λ (d : Cascade). Gave (built ceiling (length out) d) out after r) (ap₂ read-with e f) gave in
       let zero-then : Y ≡ replicate (entries ceiling c) 0 ++ drop (entries ceiling c) W =
       wiped ∙ ap (λ (l : List ℕ). replicate all 0 ++ l) (beyond (gridOf t ceiling m) W X (omega arith) kept) ∙ ap (λ (n : ℕ). replicate n 0 ++ drop n W) all-are
       in
@@ -139,38 +148,54 @@ module _ (k ceiling m : ℕ) (a : Arrays) (ok : Readable k ceiling m a) (t : ℕ
         worked-is = zero-then ∙ ap (λ (o : Outcome Cascade). worked ceiling o W) (sym is);
       }
 
+-- ---- 14
+
+module _ (ceiling end work : ℕ) (c : Cascade) (b : Bool) (is : b ≡ badEnd (ending end c)) where
+  abbrev told : Bool → Outcome Cascade
+  told x = andThen (provided 14 (not x) (result (ending end c))) (roomed ceiling work)
+
+  pub bad : b ≡ true → andThen (fitted end c) (roomed ceiling work) ≡ refused 14 nothing
+  bad h = ap told (sym is ∙ h)
+
+  pub fitting-end : b ≡ false → badEnd (ending end c) ≡ false
+  fitting-end h = sym is ∙ h
+
+  pub fits-ended : b ≡ false → (W X before after : List ℕ) (r : CompileAnswer) → Ended (roomed ceiling work (ending end c)) ceiling W X before after r
+      → Ended (andThen (fitted end c) (roomed ceiling work)) ceiling W X before after r
+  fits-ended h W X before after r = subst (λ (o : Outcome Cascade). Ended o ceiling W X before after r) (sym (ap told (sym is ∙ h)))
+
 -- ---- the book
 
-module _ (book : List ℕ) (n work : ℕ) where
-  tested-is : (b : Bool) → (leb 1 n && leb n most-states) ≡ b → tested book n work ≡ provided 8 b (andThen (read book) (roomed n work))
-  tested-is b e = ap (λ (x : Bool). provided 8 x (andThen (read book) (roomed n work))) e
+module _ (book : List ℕ) (end n work : ℕ) where
+  tested-is : (b : Bool) → (leb 1 n && leb n most-states) ≡ b → tested book end n work ≡ provided 8 b (andThen (readEnding book end) (roomed n work))
+  tested-is b e = ap (λ (x : Bool). provided 8 x (andThen (readEnding book end) (roomed n work))) e
 
   -- 8
-  pub too-low : n < 1 → tested book n work ≡ refused 8 nothing
+  pub too-low : n < 1 → tested book end n work ≡ refused 8 nothing
   too-low h = tested-is false (ap (λ (b : Bool). b && leb n most-states) (lt-leb 1 n h))
 
   in-range : 1 ≤ n → (b : Bool) → leb n most-states ≡ b → (leb 1 n && leb n most-states) ≡ b
   in-range h b e = ap (λ (x : Bool). x && leb n most-states) (le-leb 1 n h) ∙ e
 
-  pub too-high : 1 ≤ n → most-states < n → tested book n work ≡ refused 8 nothing
+  pub too-high : 1 ≤ n → most-states < n → tested book end n work ≡ refused 8 nothing
   too-high h l = tested-is false (in-range h false (lt-leb n most-states l))
 
   module _ (low : 1 ≤ n) (high : n ≤ most-states) where
-    within : tested book n work ≡ andThen (read book) (roomed n work)
+    within : tested book end n work ≡ andThen (andThen (read book) (fitted end)) (roomed n work)
     within = tested-is true (in-range low true (le-leb n most-states high))
 
     module _ (a : Arrays) (r : BookAnswer) (w : Whole book a r) where
       pub book-refused : (x : Refusal) → r ≡ BookAnswer.Refused x → (q : CompileAnswer) → compileOutcome q ≡ refusal x
-          → (W out : List ℕ) → Ended (tested book n work) n W W out out q
+          → (W out : List ℕ) → Ended (tested book end n work) n W W out out q
       book-refused x f q g W out = by x (was-refused book a r w x f) g
         where
-          stays : (j : ℕ) (p : Place) → read book ≡ refused j p → tested book n work ≡ refused j p
-          stays j p e = within ∙ ap (λ (c : Outcome Cascade). andThen c (roomed n work)) e
+          stays : (j : ℕ) (p : Place) → read book ≡ refused j p → tested book end n work ≡ refused j p
+          stays j p e = within ∙ ap (λ (c : Outcome Cascade). andThen (andThen c (fitted end)) (roomed n work)) e
 
-          by : (x : Refusal) → read book ≡ refusal x → compileOutcome q ≡ refusal x → Ended (tested book n work) n W W out out q
-          by (AtByte j p) e g = refused-ended (tested book n work) n j _ (stays j _ e) q g W out
-          by (AtRule j p) e g = refused-ended (tested book n work) n j _ (stays j _ e) q g W out
-          by (Bare j) e g = refused-ended (tested book n work) n j _ (stays j _ e) q g W out
+          by : (x : Refusal) → read book ≡ refusal x → compileOutcome q ≡ refusal x → Ended (tested book end n work) n W W out out q
+          by (AtByte j p) e g = refused-ended (tested book end n work) n j _ (stays j _ e) q g W out
+          by (AtRule j p) e g = refused-ended (tested book end n work) n j _ (stays j _ e) q g W out
+          by (Bare j) e g = refused-ended (tested book end n work) n j _ (stays j _ e) q g W out
 
       module _ (k m : ℕ) (f : r ≡ Book k m) where
         pub read-readable : Readable k n m a
@@ -179,16 +204,16 @@ module _ (book : List ℕ) (n work : ℕ) where
             record { some = low; most = high; tags = v .few-tags; held = rules-held book a r w k m f }
 
         pub book-ended : (W X out after : List ℕ) (q : CompileAnswer) → length W ≡ work
-            → Ended (roomed n (length W) (cascadeOf k a m)) n W X out after q → Ended (tested book n work) n W X out after q
+            → Ended (andThen (fitted end (cascadeOf k a m)) (roomed n (length W))) n W X out after q → Ended (tested book end n work) n W X out after q
         book-ended W X out after q lw h =
-            let is : roomed n (length W) (cascadeOf k a m) ≡ tested book n work =
-            ap (λ (i : ℕ). roomed n i (cascadeOf k a m)) lw
-            ∙ ap (λ (c : Outcome Cascade). andThen c (roomed n work)) (sym (was-read book a r w k m f))
+            let is : andThen (fitted end (cascadeOf k a m)) (roomed n (length W)) ≡ tested book end n work =
+            ap (λ (i : ℕ). andThen (fitted end (cascadeOf k a m)) (roomed n i)) lw
+            ∙ ap (λ (c : Outcome Cascade). andThen (andThen c (fitted end)) (roomed n work)) (sym (was-read book a r w k m f))
             ∙ sym within
             in
             subst (λ (o : Outcome Cascade). Ended o n W X out after q) is h
 
 -- the three equations of the call
-pub all-three : (book : List ℕ) (n work : ℕ) {W X before after : List ℕ} {r : CompileAnswer} → Ended (tested book n work) n W X before after r
-    → (compileOutcome r ≡ longOf (compileAnswer book n work (length before))) × ((after ≡ written (compileAnswer book n work (length before)) before) × (X ≡ worked n (tested book n work) W))
-all-three book n work h = (h .gave .answered, (h .gave .wrote, h .worked-is))
+pub all-three : (book : List ℕ) (end n work : ℕ) {W X before after : List ℕ} {r : CompileAnswer} → Ended (tested book end n work) n W X before after r
+    → (compileOutcome r ≡ longOf (compileAnswer book end n work (length before))) × ((after ≡ written (compileAnswer book end n work (length before)) before) × (X ≡ worked n (tested book end n work) W))
+all-three book end n work h = (h .gave .answered, (h .gave .wrote, h .worked-is))

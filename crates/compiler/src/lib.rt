@@ -12,12 +12,18 @@ use limits::STATES;
 use words::wide;
 use workspace::Grid;
 ghost use mathlib.Core.Path.{_≡_};
+ghost use mathlib.Core.Bool.{false};
 ghost use Prim.Native.Nat.{_≤_};
 ghost use mathlib.Core.List.{_++_};
 ghost use lib.ListN.{length, drop, replicate};
 ghost use Rattle.answers.specs.Slice.{longOf, written};
 ghost use Rattle.answers.specs.Answer.{compileOutcome};
+ghost use Rattle.limits.specs.Limits.{no-end};
+ghost use Rattle.answers.specs.Outcome.{andThen};
+ghost use Rattle.cascades.specs.Rule.{ending};
+ghost use Rattle.cascades.specs.Ending.{badEnd};
 ghost use Rattle.books.specs.Arrays.{arrays, cascadeOf};
+ghost use Rattle.books.specs.Ending.{fitted};
 ghost use Rattle.compilation.specs.Compile.{roomed, tested, compileAnswer};
 ghost use Rattle.builder.specs.Rules.{Readable};
 ghost use Rattle.compiler.specs.Answer.{worked};
@@ -39,6 +45,7 @@ fn wipe(work: &mut [u16], n: usize)
 fn compile_read(
     work: &mut [u16],
     ceiling: usize,
+    end: u8,
     k: u8,
     m: usize,
     rows: &[[u8; PATTERN]; RULES],
@@ -47,7 +54,8 @@ fn compile_read(
     out: &mut [u8],
 ) -> CompileAnswer
     requires { ⌜ Readable k ceiling m (arrays rows lengths heads) ⌝ }
-    ensures { λ r. ⌜ Ended (roomed ceiling (length (now (work .entry))) (cascadeOf k (arrays (rows .entry) (lengths .entry) (heads .entry)) m)) ceiling (now (work .entry)) (now (work .exit)) (now (out .entry)) (now (out .exit)) r ⌝ }
+    requires { ⌜ badEnd (ending end (cascadeOf k (arrays rows lengths heads) m)) ≡ false ⌝ }
+    ensures { λ r. ⌜ Ended (roomed ceiling (length (now (work .entry))) (ending end (cascadeOf k (arrays (rows .entry) (lengths .entry) (heads .entry)) m))) ceiling (now (work .entry)) (now (work .exit)) (now (out .entry)) (now (out .exit)) r ⌝ }
 {
     let g = Grid {
         rows: STATE_ROWS * ceiling,
@@ -58,16 +66,45 @@ fn compile_read(
     if work.len() < entries {
         return CompileAnswer::Refused(Refusal::Bare { number: 9 });
     }
-    let answer = builder::build(work, g, ceiling, m, rows, lengths, heads, out);
+    let last = wide(end);
+    let answer = builder::build(work, g, ceiling, last, m, rows, lengths, heads, out);
     wipe(work, entries);
     answer
 }
 
-// Compiles a book: the number of bytes of its smallest table, which stands at the front of `out`; or the refusal.
-pub fn compile(book: &[u8], ceiling: usize, work: &mut [u16], out: &mut [u8]) -> CompileAnswer
-    ensures answer { λ r. ⌜ compileOutcome r ≡ longOf (compileAnswer (now (book .entry)) ceiling (length (now (work .entry))) (length (now (out .entry)))) ⌝ }
-    ensures out { λ r. ⌜ now (out .exit) ≡ written (compileAnswer (now (book .entry)) ceiling (length (now (work .entry))) (length (now (out .entry)))) (now (out .entry)) ⌝ }
-    ensures work { λ r. ⌜ now (work .exit) ≡ worked ceiling (tested (now (book .entry)) ceiling (length (now (work .entry)))) (now (work .entry)) ⌝ }
+// The same, and 14 before it.
+fn compile_rules(
+    work: &mut [u16],
+    ceiling: usize,
+    end: u8,
+    k: u8,
+    m: usize,
+    rows: &[[u8; PATTERN]; RULES],
+    lengths: &[usize; RULES],
+    heads: &[[u8; HEAD]; RULES],
+    out: &mut [u8],
+) -> CompileAnswer
+    requires { ⌜ Readable k ceiling m (arrays rows lengths heads) ⌝ }
+    ensures { λ r. ⌜ Ended (andThen (fitted end (cascadeOf k (arrays (rows .entry) (lengths .entry) (heads .entry)) m)) (roomed ceiling (length (now (work .entry))))) ceiling (now (work .entry)) (now (work .exit)) (now (out .entry)) (now (out .exit)) r ⌝ }
+{
+    if endings::bad_end(k, rows, lengths, heads, m, end) {
+        return CompileAnswer::Refused(Refusal::Bare { number: 14 });
+    }
+    compile_read(work, ceiling, end, k, m, rows, lengths, heads, out)
+}
+
+// Compiles a book whose sentences an end tag ends (255 for none): the number of bytes of its smallest table, which stands at the front of
+// `out`; or the refusal.
+pub fn compile_ending(
+    book: &[u8],
+    end: u8,
+    ceiling: usize,
+    work: &mut [u16],
+    out: &mut [u8],
+) -> CompileAnswer
+    ensures answer { λ r. ⌜ compileOutcome r ≡ longOf (compileAnswer (now (book .entry)) end ceiling (length (now (work .entry))) (length (now (out .entry)))) ⌝ }
+    ensures out { λ r. ⌜ now (out .exit) ≡ written (compileAnswer (now (book .entry)) end ceiling (length (now (work .entry))) (length (now (out .entry)))) (now (out .entry)) ⌝ }
+    ensures work { λ r. ⌜ now (work .exit) ≡ worked ceiling (tested (now (book .entry)) end ceiling (length (now (work .entry)))) (now (work .entry)) ⌝ }
 {
     if ceiling < 1 {
         return CompileAnswer::Refused(Refusal::Bare { number: 8 });
@@ -81,9 +118,10 @@ pub fn compile(book: &[u8], ceiling: usize, work: &mut [u16], out: &mut [u8]) ->
     let got = books::read_into(book, &mut rows, &mut lengths, &mut heads);
     match got {
         BookAnswer::Refused(refusal) => CompileAnswer::Refused(refusal),
-        BookAnswer::Book { tags: k, rules } => compile_read(
+        BookAnswer::Book { tags: k, rules } => compile_rules(
             work,
             ceiling,
+            end,
             k,
             rules,
             &rows,
@@ -92,4 +130,13 @@ pub fn compile(book: &[u8], ceiling: usize, work: &mut [u16], out: &mut [u8]) ->
             out,
         ),
     }
+}
+
+// The same with no end tag.
+pub fn compile(book: &[u8], ceiling: usize, work: &mut [u16], out: &mut [u8]) -> CompileAnswer
+    ensures answer { λ r. ⌜ compileOutcome r ≡ longOf (compileAnswer (now (book .entry)) no-end ceiling (length (now (work .entry))) (length (now (out .entry)))) ⌝ }
+    ensures out { λ r. ⌜ now (out .exit) ≡ written (compileAnswer (now (book .entry)) no-end ceiling (length (now (work .entry))) (length (now (out .entry)))) (now (out .entry)) ⌝ }
+    ensures work { λ r. ⌜ now (work .exit) ≡ worked ceiling (tested (now (book .entry)) no-end ceiling (length (now (work .entry)))) (now (work .entry)) ⌝ }
+{
+    compile_ending(book, limits::NO_END, ceiling, work, out)
 }

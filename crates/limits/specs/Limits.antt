@@ -17,6 +17,10 @@ longest-pattern = 6
 abbrev pub longest-sentence : ℕ
 longest-sentence = 65535
 
+-- "an end tag, or 255 for none" (document 02, W1): no tag is 255
+abbrev pub no-end : ℕ
+no-end = 255
+
 abbrev pub most-states : ℕ
 most-states = 256
 

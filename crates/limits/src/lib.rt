@@ -14,6 +14,9 @@ pub const RULES: usize = 16;
 // The most tags in a sentence that is run.
 pub const SENTENCE: usize = 65535;
 
+// The end tag of a call that has none (document 02, W1).
+pub const NO_END: u8 = 255;
+
 // The most states of a table.
 pub const STATES: usize = 256;
 

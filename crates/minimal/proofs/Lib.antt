@@ -1,6 +1,7 @@
 -- Laws of the smallest table of a cascade.
 pub mod Matcher
 pub mod OneRule
+pub mod Ending
 pub mod TableOf
 pub mod Theorems
 pub mod Examples

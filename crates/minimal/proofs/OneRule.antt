@@ -1,4 +1,5 @@
--- The transducer of one rule does what the rule does (002, proposition 3), is normalized (lemma 4) and minimal (proposition 5).
+-- The transducer of one rule does what the rule does (002, proposition 3), is normalized (lemma 4) and minimal (proposition 5), the last two
+-- by what it makes of the rests of the pattern alone.
 use Prim.Native.Nat.{ℕ, zero, suc, _+_, _-_, _≤_, _<_}
 use native.Mathlib.Omega.{arith}
 use native.Mathlib.Decide.{ℕ-discrete, decLt}
@@ -9,17 +10,17 @@ use mathlib.Core.Bool.{Bool, true, false}
 use lib.ListN.{length, take, drop, getD, set, length-append, length-drop, length-set, take-append-drop, drop-of-length-le}
 use lib.Seq.{take-all, take-take, take-append-seam, drop-append-seam, take-set-le, getD-set-same, getD-take, take-suc, drop-cons, length-take-le}
 use lib.Dec.{eqb}
-use Rattle.words.specs.Word.{Below, prefix}
+use Rattle.words.specs.Word.{prefix}
 use Rattle.words.specs.Front.{first}
 use Rattle.words.specs.Overlap.{overlap}
-use Rattle.words.proofs.Word.{below-suc, below-take, below-drop, prefix-append, prefix-split, prefix-length}
+use Rattle.words.proofs.Word.{below-suc, prefix-append, prefix-split, prefix-length}
 use Rattle.words.proofs.Overlap.{overlap-le, overlap-prefix}
 use Rattle.cascades.specs.Rule.{Rule, replaced, ValidRule}
 use Rattle.cascades.specs.Rewrite.{rewrite, apply}
 use Rattle.cascades.proofs.Rewrite.{rewrite-short}
 use Rattle.transducers.specs.Transducer.{puts}
 use Rattle.transducers.specs.Run.{walk}
-use Rattle.transducers.specs.Canonical.{Same, Free, Minimal, Sound, Held}
+use Rattle.transducers.specs.Canonical.{Same, Sound, Held}
 use Rattle.transducers.proofs.Run.{walk-append}
 use Rattle.minimal.specs.Matcher.{held, moves}
 use Rattle.minimal.specs.OneRule.{borders, oneRule}
@@ -200,7 +201,7 @@ module _ (l k : ℕ) (r : Rule) (ok : ValidRule l k r) where
       )
 
   -- a prefix of u leads to its own state
-  walk-prefix : (j : ℕ) → j ≤ n → walk (oneRule r) 0 (take j u) ≡ j
+  pub walk-prefix : (j : ℕ) → j ≤ length (r .pattern) → walk (oneRule r) 0 (take j (r .pattern)) ≡ j
   unfolding u n
   walk-prefix zero h = refl
   walk-prefix (suc j) h =
@@ -232,60 +233,66 @@ module _ (l k : ℕ) (r : Rule) (ok : ValidRule l k r) where
   changed j h low e =
       differs (sym (take-append-drop j u) ∙ ap (λ (o : List ℕ). take j u ++ o) e ∙ ap (λ (o : List ℕ). o ++ puts (oneRule r) j (drop j u)) (sym (said-all j h low)) ∙ puts-rest j h)
 
-  rest-below : (j : ℕ) → Below k (drop j u)
-  unfolding u
-  rest-below j = below-drop k j (r .pattern) (ok .pattern-below)
+  -- the last rest of u is nothing
+  no-rest : drop n u ≡ []
+  unfolding u n
+  no-rest = drop-of-length-le (r .pattern) {i = length (r .pattern)} (omega arith)
 
-  -- 002, lemma 4
-  early-rule : (j : ℕ) → j < suc n → Free k (puts (oneRule r) j)
+  -- 002, lemma 4: no tag begins all that is put out on the rests of u
+  pub early-rule : (j : ℕ) → j < suc (length (r .pattern)) → (c : ℕ) → ((i : ℕ) → first (puts (oneRule r) j (drop i (r .pattern))) ≡ suc c) → ⊥
   unfolding u v p n
   early-rule j hj c all = go (below-suc j n hj) (decLt p j)
     where
+      at-once : first (puts (oneRule r) j []) ≡ suc c
+      at-once = ap (λ (x : List ℕ). first (puts (oneRule r) j x)) (sym no-rest) ∙ all n
+
       go : (j < n) ⊎ (j ≡ n) → Dec (p < j) → ⊥
-      go (inr e) d = let z : suc c ≡ 0 = sym (all [] tt) ∙ ap (λ (i : ℕ). first (held (r .pattern) (r .place) i)) e ∙ ap first held-end in omega arith
-      go (inl h) (no d) = let z : suc c ≡ 0 = sym (all [] tt)
+      go (inr e) d = let z : suc c ≡ 0 = sym at-once ∙ ap (λ (i : ℕ). first (held (r .pattern) (r .place) i)) e ∙ ap first held-end in omega arith
+      go (inl h) (no d) = let z : suc c ≡ 0 = sym at-once
           ∙ ap first (held-at j h ∙ drop-of-length-le (take j u) {i = p} (omega (arith, length-take-le j u (omega arith)))) in omega arith
       go (inl h) (yes d) =
           let inside : p < length (take j u) = omega (arith, length-take-le j u (omega arith)) in
-          let old : suc c ≡ suc (getD u p 0) = sym (all [] tt) ∙ ap first (held-at j h ∙ drop-cons (take j u) p 0 inside)
+          let old : suc c ≡ suc (getD u p 0) = sym at-once ∙ ap first (held-at j h ∙ drop-cons (take j u) p 0 inside)
           ∙ ap suc (getD-take j u p 0 d) in
           let back : take p v ++ puts (oneRule r) j (drop j u) ≡ take p v ++ drop p v =
           ap (λ (o : List ℕ). o ++ puts (oneRule r) j (drop j u)) (v-front ∙ sym (take-take p j u (omega arith)))
           ∙ puts-rest j h ∙ sym (take-append-drop p v) in
           let new : suc c ≡ suc (r .tag) =
-          sym (all (drop j u) (rest-below j))
+          sym (all j)
           ∙ ap first (append-cancel-left (take p v) (puts (oneRule r) j (drop j u)) (drop p v) back ∙ drop-cons v p 0 (omega (arith, v-length, p-below)))
           ∙ ap suc (getD-set-same (r .pattern) (r .place) (r .tag) 0 (ok .place-inside)) in
           ok .tag-new (omega arith)
 
-  -- 002, proposition 5: two states are told apart by nothing more, by the rest of u after the one, or by that after the other
-  told : (i j : ℕ) → i < j → (j < n) ⊎ (j ≡ n) → Dec (p < i) → Dec (p < j) → Same k (puts (oneRule r) i) (puts (oneRule r) j) → ⊥
+  -- i and j put out the same on the rests of u
+  abbrev pub SameRests : ℕ → ℕ → Type 0
+  SameRests i j = (m : ℕ) → puts (oneRule r) i (drop m (r .pattern)) ≡ puts (oneRule r) j (drop m (r .pattern))
+
+  same-length : (i j : ℕ) → SameRests i j → length (held (r .pattern) (r .place) i) ≡ length (held (r .pattern) (r .place) j)
   unfolding u n
-  told i j lt (inl h) d (yes b) same = omega (arith, ap length (same [] tt), held-long i (omega arith), held-long j h)
+  same-length i j same = ap length (ap (puts (oneRule r) i) (sym no-rest) ∙ same n ∙ ap (puts (oneRule r) j) no-rest)
+
+  -- 002, proposition 5: two states are told apart by nothing more, by the rest of u after the one, or by that after the other
+  told : (i j : ℕ) → i < j → (j < n) ⊎ (j ≡ n) → Dec (p < i) → Dec (p < j) → SameRests i j → ⊥
+  unfolding u n
+  told i j lt (inl h) d (yes b) same = omega (arith, same-length i j same, held-long i (omega arith), held-long j h)
   told i j lt (inl h) d (no b) same =
       let x = drop j u in
       let short : length (take i u ++ x) < length u = omega (arith, length-append (take i u) x, length-take-le i u (omega arith), length-drop j u) in
       let keeps : puts (oneRule r) i x ≡ x =
       append-cancel-left (take i u) (puts (oneRule r) i x) x
       (ap (λ (o : List ℕ). o ++ puts (oneRule r) i x) (sym (said-all i (omega arith) (λ g. omega arith))) ∙ puts-in x i (omega arith) ∙ rewrite-short u v (take i u ++ x) short) in
-      changed j h b (sym keeps ∙ same x (rest-below j))
-  told i j lt (inr e) (yes d) b same = omega (arith, ap length (same [] tt), held-long i (omega arith), ap (λ (s : ℕ). length (held (r .pattern) (r .place) s)) e, ap length held-end)
+      changed j h b (sym keeps ∙ same j)
+  told i j lt (inr e) (yes d) b same = omega (arith, same-length i j same, held-long i (omega arith), ap (λ (s : ℕ). length (held (r .pattern) (r .place) s)) e, ap length held-end)
   told i j lt (inr e) (no d) b same =
       let x = drop i u in
       let keeps : puts (oneRule r) j x ≡ x = ap (λ (s : ℕ). puts (oneRule r) s x) e ∙ puts-end x in
-      changed i (omega arith) d (sym keeps ∙ sym (same x (rest-below i)))
+      changed i (omega arith) d (sym keeps ∙ sym (same i))
 
-  pub minimal-rule : Minimal k (oneRule r)
-  unfolding u n
-  minimal-rule =
-      record {
-        next-below = sound-rule .next-below;
-        reached = λ j hj. record { word = take j u; below = below-take k j u (ok .pattern-below); leads = walk-prefix j (omega arith) };
-        early = early-rule;
-        apart = λ i j hi hj same. apart i j hi hj same (decLt i j) (decLt j i);
-      }
+  pub apart-rule : (i j : ℕ) → i < suc (length (r .pattern)) → j < suc (length (r .pattern)) → SameRests i j → i ≡ j
+  unfolding n
+  apart-rule i j hi hj same = by (decLt i j) (decLt j i)
     where
-      apart : (i j : ℕ) → i < suc n → j < suc n → Same k (puts (oneRule r) i) (puts (oneRule r) j) → Dec (i < j) → Dec (j < i) → i ≡ j
-      apart i j hi hj same (yes lt) d = absurd (told i j lt (below-suc j n hj) (decLt p i) (decLt p j) same)
-      apart i j hi hj same (no b) (yes lt) = absurd (told j i lt (below-suc i n hi) (decLt p j) (decLt p i) (λ x hx. sym (same x hx)))
-      apart i j hi hj same (no b) (no d) = omega arith
+      by : Dec (i < j) → Dec (j < i) → i ≡ j
+      by (yes lt) d = absurd (told i j lt (below-suc j n hj) (decLt p i) (decLt p j) same)
+      by (no b) (yes lt) = absurd (told j i lt (below-suc i n hi) (decLt p j) (decLt p i) (λ m. sym (same m)))
+      by (no b) (no d) = omega arith

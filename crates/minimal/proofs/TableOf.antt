@@ -1,22 +1,31 @@
 -- The table of a cascade, rule by rule: what each rule's phases keep, and what follows for the whole.
 use Prim.Native.Nat.{ℕ, zero, suc, _+_, _*_, _-_, _≤_, _<_}
 use native.Mathlib.Omega.{arith}
+use native.Mathlib.Numerals.{add-one}
 use mathlib.Core.Path.{_≡_, refl, sym, ap, _∙_}
+use mathlib.Core.Bool.{false, _||_}
 use mathlib.Core.Logic.{_↔_}
 use mathlib.Core.List.{List, [], _∷_, _++_}
-use lib.ListN.{length, take}
+use lib.Dec.{eqb}
+use lib.ListN.{length, take, getD}
 use Rattle.words.specs.Word.{Below, Prefix}
 use Rattle.words.specs.Front.{first}
+use Rattle.words.specs.Pieces.{piecewise}
+use Rattle.words.proofs.Pieces.{Without, Keeps, piecewise-then, piecewise-same, piecewise-below, keeps-then}
 use Rattle.cascades.specs.Rule.{Rule, ValidRule, ValidRules, Cascade, having, ValidCascade}
 use Rattle.cascades.specs.Rewrite.{apply, applyAll, behavior}
+use Rattle.cascades.specs.Ending.{before, misused}
+use Rattle.cascades.specs.Spares.{Spares, Spare}
+use Rattle.cascades.proofs.Ending.{no-or, spares-used, keeps-apply}
 use Rattle.transducers.specs.Transducer.{Shape, puts, Transducer, turns}
 use Rattle.transducers.specs.Table.{Table, shape}
 use Rattle.transducers.specs.Run.{outputs}
-use Rattle.transducers.specs.Canonical.{Same, Sound, Canonical}
+use Rattle.transducers.specs.Canonical.{Same, Inside, Sound, Canonical}
 use Rattle.transducers.specs.Tabulate.{table, Rows, Doing}
 use Rattle.transducers.specs.Compose.{compose}
 use Rattle.transducers.specs.Normalize.{normalize}
 use Rattle.transducers.specs.Merge.{merge}
+use Rattle.transducers.specs.Ended.{ended}
 use Rattle.transducers.proofs.Lower.{fewest, ahead}
 use Rattle.transducers.proofs.Unique.{unique}
 use Rattle.transducers.proofs.Tabulate.{table-equal, canonical-table, doing-table}
@@ -24,9 +33,11 @@ use Rattle.transducers.proofs.Compose.{doing-compose}
 use Rattle.transducers.proofs.Normalize.{doing-normalize, early-normalize}
 use Rattle.transducers.proofs.Merge.{doing-merge, early-merge, apart-merge}
 use Rattle.transducers.proofs.Number.{doing-number, canonical-number}
+use Rattle.transducers.proofs.Ended.{does-ended, sound-ended}
 use Rattle.minimal.specs.OneRule.{oneRule, ruleTable}
 use Rattle.minimal.specs.TableOf.{identity, add, addRule, addAll, tableOf}
-use Rattle.minimal.proofs.OneRule.{does-rule, sound-rule, held-rule, minimal-rule}
+use Rattle.minimal.proofs.OneRule.{does-rule, sound-rule, held-rule}
+use Rattle.minimal.proofs.Ending.{upto, puts-upto, sound-states, minimal-states, fronts-all, inside-all, fronts-before, inside-before}
 
 -- a table after some rules: the canonical one that does f
 pub record Good (k d : ℕ) (f : List ℕ → List ℕ) (t : Table) : Type 0 where
@@ -85,21 +96,37 @@ good-add k d e f g t u good rule =
       canonical = canonical-number k (d + e) h m m-doing (early-merge k (d + e) h n n-doing n-early) (apart-merge k (d + e) h n n-doing n-early);
     }
 
-pub doing-rule : (l k : ℕ) (r : Rule) → ValidRule l k r → Doing k (l - 1) (apply r) (ruleTable k r)
-doing-rule l k r ok = doing-table k (oneRule r) (sound-rule l k r ok) (l - 1) (apply r) (held-rule l k r ok) (does-rule l k r ok)
+-- f matters only on words of tags below k
+good-as : (k d : ℕ) (f g : List ℕ → List ℕ) (t : Table) → Same k f g → Good k d f t → Good k d g t
+good-as k d f g t same good =
+    record {
+      doing =
+          record { rows = good .doing .rows; sound = good .doing .sound; held = good .doing .held; does = λ x hx. good .doing .does x hx ∙ same x hx };
+      canonical = good .canonical;
+    }
 
-good-addAll : (l k d : ℕ) (f : List ℕ → List ℕ) (rs : List Rule) (t : Table) → Good k d f t → ValidRules l k rs
-    → Good k (d + (l - 1) * length rs) (λ w. applyAll rs (f w)) (addAll k t rs)
-good-addAll l k d f [] t good ok = let e : d ≡ d + (l - 1) * 0 = omega arith in rw (← e) good
-good-addAll l k d f (r ∷ rs) t good ok =
-    let e : d + (l - 1) + (l - 1) * length rs ≡ d + (l - 1) * suc (length rs) = omega arith in
-    let more = good-add k d (l - 1) f (apply r) t (ruleTable k r) good (doing-rule l k r (ok .0)) in
-    rw (← e) (good-addAll l k (d + (l - 1)) (λ w. apply r (f w)) rs (addRule k t r) more (ok .1))
+pub doing-rule : (l k e : ℕ) (r : Rule) → ValidRule l k r → Doing k (l - 1) (piecewise e (apply r)) (ruleTable k e r)
+doing-rule l k e r ok =
+    doing-table k (ended e (oneRule r)) (sound-ended e (oneRule r) k (sound-rule l k r ok)) (l - 1) (piecewise e (apply r)) (held-rule l k r ok)
+    (λ x hx. does-ended e (oneRule r) x ∙ piecewise-below e k (puts (oneRule r) 0) (apply r) (does-rule l k r ok) x hx)
 
-pub good : (l : ℕ) (c : Cascade) → ValidCascade l c → Good (c .tags) ((l - 1) * length (c .rules)) (behavior c) (tableOf c)
-good l c ok =
-    let e : 0 + (l - 1) * length (c .rules) ≡ (l - 1) * length (c .rules) = omega arith in
-    rw (← e) (good-addAll l (c .tags) 0 (λ w. w) (c .rules) (table (c .tags) identity) (good-identity (c .tags)) ok)
+good-addAll : (l k e d : ℕ) (f : List ℕ → List ℕ) (rs : List Rule) (t : Table) → Keeps e f → Good k d (piecewise e f) t → ValidRules l k rs → Spare e rs
+    → Good k (d + (l - 1) * length rs) (piecewise e (λ p. applyAll rs (f p))) (addAll k e t rs)
+good-addAll l k e d f [] t keeps good ok spare = let n : d ≡ d + (l - 1) * 0 = omega arith in rw (← n) good
+good-addAll l k e d f (r ∷ rs) t keeps good ok spare =
+    let n : d + (l - 1) + (l - 1) * length rs ≡ d + (l - 1) * suc (length rs) = omega arith in
+    let more = good-add k d (l - 1) (piecewise e f) (piecewise e (apply r)) t (ruleTable k e r) good (doing-rule l k e r (ok .0)) in
+    let joined = good-as k (d + (l - 1)) (λ w. piecewise e (apply r) (piecewise e f w)) (piecewise e (λ p. apply r (f p))) (addRule k e t r) (λ w h. piecewise-then e (apply r) f keeps w) more in
+    rw (← n)
+    (good-addAll l k e (d + (l - 1)) (λ p. apply r (f p)) rs (addRule k e t r) (keeps-then e (apply r) f (keeps-apply e r (spare .0)) keeps) joined (ok .1) (spare .1))
+
+pub good : (l : ℕ) (c : Cascade) → ValidCascade l c → Spare (c .end) (c .rules) → Good (c .tags) ((l - 1) * length (c .rules)) (behavior c) (tableOf c)
+good l c ok spare =
+    let k = c .tags in
+    let e = c .end in
+    let n : 0 + (l - 1) * length (c .rules) ≡ (l - 1) * length (c .rules) = omega arith in
+    let start = good-as k 0 (λ w. w) (piecewise e (λ p. p)) (table k identity) (λ w h. sym (piecewise-same e w)) (good-identity k) in
+    rw (← n) (good-addAll l k e 0 (λ p. p) (c .rules) (table k identity) (record { without = λ p h. h; ends = λ p h. h }) start ok spare)
 
 -- a sound transducer as one that starts in state 0 and puts out nothing at first
 abbrev pub machine : (k : ℕ) (S : Shape) → Sound k S → Transducer k
@@ -136,28 +163,61 @@ good-canonical k d e f g t u a b = (
   λ same. good-only k e g u b t (a .doing .rows) (a .canonical) (λ x hx. a .doing .does x hx ∙ same x hx),
 )
 
--- 002, proposition 5, for the table
-pub one-rule-count : (l : ℕ) (c : Cascade) (r : Rule) → ValidRule l (c .tags) r → length (tableOf (having c (r ∷ []))) ≡ length (r .pattern) + 1
-one-rule-count l c r ok =
+-- 002, proposition 5, for the table: as many states as the ended transducer of the rule has that are reached
+one-rule-count : (l : ℕ) (c : Cascade) (r : Rule) (ok : ValidRule l (c .tags) r) (free : before (c .end) (r .pattern) ≡ false) → Spares (c .end) r
+    → (m : ℕ) (some : 0 < m) (few : m ≤ suc (length (r .pattern))) (inside : Inside (c .tags) (upto m (ended (c .end) (oneRule r))))
+    → (fronts : (j : ℕ) → j < m → Without (c .end) (take j (r .pattern))) → length (tableOf (having c (r ∷ []))) ≡ m
+one-rule-count l c r ok free spares m some few inside fronts =
     let k = c .tags in
+    let e = c .end in
     let one = having c (r ∷ []) in
     let t = tableOf one in
-    let t-good = good l one (ok, tt) in
-    let rule-sound = sound-rule l k r ok in
-    let up = good-smallest k ((l - 1) * 1) (behavior one) t t-good (machine k (oneRule r) rule-sound) (does-rule l k r ok) in
-    let alike : Same k (puts (shape t) 0) (puts (oneRule r) 0) = λ x hx. t-good .doing .does x hx ∙ sym (does-rule l k r ok x hx) in
-    let low = fewest k (oneRule r) (minimal-rule l k r ok) (machine k (shape t) (t-good .doing .sound)) alike (rule-sound .some) in
+    let t-good = good l one (ok, tt) (spares, tt) in
+    let S = upto m (ended e (oneRule r)) in
+    let S-sound = sound-states l k e r ok free m some few inside fronts in
+    let S-does : Same k (puts S 0) (behavior one) = λ x hx.
+    puts-upto m (ended e (oneRule r)) x 0 ∙ does-ended e (oneRule r) x ∙ piecewise-below e k (puts (oneRule r) 0) (apply r) (does-rule l k r ok) x hx in
+    let up = good-smallest k ((l - 1) * 1) (behavior one) t t-good (machine k S S-sound) S-does in
+    let alike : Same k (puts (shape t) 0) (puts S 0) = λ x hx. t-good .doing .does x hx ∙ sym (S-does x hx) in
+    let low = fewest k S (minimal-states l k e r ok free m some few inside fronts) (machine k (shape t) (t-good .doing .sound)) alike some in
     omega arith
 
--- rules are added one at a time: the tables on the way are those of the leading parts
-addAll-append : (k : ℕ) (t : Table) (rs ss : List Rule) → addAll k t (rs ++ ss) ≡ addAll k (addAll k t rs) ss
-addAll-append k t [] ss = refl
-addAll-append k t (r ∷ rs) ss = addAll-append k (addRule k t r) rs ss
+-- one more than the pattern has tags; as many where it ends with the end tag
+module _ (l : ℕ) (c : Cascade) (r : Rule) (ok : ValidRule l (c .tags) r) (fits : misused (c .end) r ≡ false) where
+  abbrev e : ℕ
+  e = c .end
 
-pub tableOf-append : (c : Cascade) (rs : List Rule) (r : Rule) → tableOf (having c (rs ++ (r ∷ []))) ≡ addRule (c .tags) (tableOf (having c rs)) r
-tableOf-append c rs r = addAll-append (c .tags) (table (c .tags) identity) rs (r ∷ [])
+  abbrev n : ℕ
+  n = length (r .pattern)
+
+  free : before e (r .pattern) ≡ false
+  free = no-or (before e (r .pattern)) (eqb (getD (r .pattern) (r .place) 0) e || eqb (r .tag) e) fits .0
+
+  pub count-other : (getD (r .pattern) (n - 1) 0 ≡ e → ⊥) → length (tableOf (having c (r ∷ []))) ≡ n + 1
+  count-other other =
+      one-rule-count l c r ok free (spares-used e r fits) (suc n) (omega arith) (omega arith)
+      (inside-all l (c .tags) e r ok free other) (fronts-all l (c .tags) e r ok free other)
+      ∙ sym (add-one n)
+
+  pub count-ending : getD (r .pattern) (n - 1) 0 ≡ e → length (tableOf (having c (r ∷ []))) ≡ n
+  count-ending same =
+      one-rule-count l c r ok free (spares-used e r fits) n (omega (arith, ok .place-inside)) (omega arith)
+      (inside-before l (c .tags) e r ok free same) (fronts-before l (c .tags) e r ok free same)
+
+-- rules are added one at a time: the tables on the way are those of the leading parts
+addAll-append : (k e : ℕ) (t : Table) (rs ss : List Rule) → addAll k e t (rs ++ ss) ≡ addAll k e (addAll k e t rs) ss
+addAll-append k e t [] ss = refl
+addAll-append k e t (r ∷ rs) ss = addAll-append k e (addRule k e t r) rs ss
+
+pub tableOf-append : (c : Cascade) (rs : List Rule) (r : Rule) → tableOf (having c (rs ++ (r ∷ []))) ≡ addRule (c .tags) (c .end) (tableOf (having c rs)) r
+tableOf-append c rs r = addAll-append (c .tags) (c .end) (table (c .tags) identity) rs (r ∷ [])
 
 pub valid-take : (l k i : ℕ) (rs : List Rule) → ValidRules l k rs → ValidRules l k (take i rs)
 valid-take l k zero rs ok = tt
 valid-take l k (suc i) [] ok = tt
 valid-take l k (suc i) (r ∷ rs) ok = (ok .0, valid-take l k i rs (ok .1))
+
+pub spare-take : (e i : ℕ) (rs : List Rule) → Spare e rs → Spare e (take i rs)
+spare-take e zero rs s = tt
+spare-take e (suc i) [] s = tt
+spare-take e (suc i) (r ∷ rs) s = (s .0, spare-take e i rs (s .1))

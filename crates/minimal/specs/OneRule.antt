@@ -8,6 +8,7 @@ use Rattle.cascades.specs.Rule.{Rule}
 use Rattle.transducers.specs.Transducer.{Shape}
 use Rattle.transducers.specs.Table.{Table}
 use Rattle.transducers.specs.Tabulate.{table}
+use Rattle.transducers.specs.Ended.{ended}
 use Rattle.minimal.specs.Matcher.{Matcher, matching}
 
 -- what was matched and the tag, if that is a prefix of u, otherwise the longest border of it: the overlap of both with u (fact 1)
@@ -17,5 +18,6 @@ borders u = record { states = suc (length u); longest = λ s. s; step = λ s a. 
 abbrev pub oneRule : Rule → Shape
 oneRule r = matching (r .pattern) (r .place) (r .tag) (borders (r .pattern))
 
-abbrev pub ruleTable : ℕ → Rule → Table
-ruleTable k r = table k (oneRule r)
+-- it begins afresh after an end tag
+abbrev pub ruleTable : ℕ → ℕ → Rule → Table
+ruleTable k e r = table k (ended e (oneRule r))

@@ -24,13 +24,13 @@ add k t u =
     let merged = merge k normalized in
     number k merged
 
--- the table with one more rule
-abbrev pub addRule : ℕ → Table → Rule → Table
-addRule k t r = add k t (ruleTable k r)
+-- the table with one more rule, for an end tag
+abbrev pub addRule : ℕ → ℕ → Table → Rule → Table
+addRule k e t r = add k t (ruleTable k e r)
 
-abbrev pub addAll : ℕ → Table → List Rule → Table
-addAll k t [] = t
-addAll k t (r ∷ rs) = addAll k (addRule k t r) rs
+abbrev pub addAll : ℕ → ℕ → Table → List Rule → Table
+addAll k e t [] = t
+addAll k e t (r ∷ rs) = addAll k e (addRule k e t r) rs
 
 abbrev pub tableOf : Cascade → Table
-tableOf c = addAll (c .tags) (table (c .tags) identity) (c .rules)
+tableOf c = addAll (c .tags) (c .end) (table (c .tags) identity) (c .rules)

@@ -2,7 +2,7 @@
 use Prim.Native.Nat.{ℕ, suc, _^_, _≤_, _<_}
 use native.Mathlib.Omega.{arith}
 use mathlib.Core.Path.{_≡_, refl, sym, subst}
-use mathlib.Core.Bool.{Bool, true, false, _&&_}
+use mathlib.Core.Bool.{Bool, true, false, not, _&&_}
 use mathlib.Core.List.{List, [], _∷_}
 use borrow.Author.Tests.{leb-true}
 use lib.Dec.{eqb, leb, ltb}
@@ -13,10 +13,11 @@ use Rattle.answers.specs.Outcome.{Outcome, result, refused, nothing, byte, rule
 use Rattle.answers.specs.Slice.{fitting, longOf}
 use Rattle.sentences.specs.Run.{highest, run, changed}
 use Rattle.sentences.proofs.Run.{RunEnds, too-long, high-tag, no-room, made-of, run-ends}
-use Rattle.cascades.specs.Rule.{Cascade}
+use Rattle.cascades.specs.Rule.{Cascade, ending}
+use Rattle.cascades.specs.Ending.{badEnd}
 use Rattle.cascades.specs.Rewrite.{behavior}
-use Rattle.books.specs.Book.{Valid}
 use Rattle.books.specs.Read.{read}
+use Rattle.books.specs.Ending.{fitted, ValidEnding}
 use Rattle.books.specs.Answer.{Sizes, sizes, bookOutcome}
 use Rattle.books.specs.declared.BookAnswer.{BookAnswer}
 use Rattle.books.proofs.Refusal.{BookRefusal, book-refusal}
@@ -74,11 +75,18 @@ legible-run k s room made = by (run-ends k s room made)
     by no-room = (omega arith, omega arith, λ e. omega arith)
     by (made-of a) = omega (arith, differences-most s made, a .short)
 
-pub legible-book : (book s : List ℕ) (room : ℕ) → Legible (changed s (bookRun book s room))
-legible-book book s room = by (read book) (book-refusal book)
+pub legible-book : (book : List ℕ) (end : ℕ) (s : List ℕ) (room : ℕ) → Legible (changed s (bookRun book end s room))
+legible-book book end s room = by (read book) (book-refusal book)
   where
-    by : (o : Outcome Cascade) → BookRefusal o → Legible (changed s (andThen o (λ b. run (b .tags) s room (behavior b s))))
-    by (result b) n = legible-run (b .tags) s room (behavior b s)
+    after : Cascade → Outcome (List ℕ)
+    after c = run (c .tags) s room (behavior c s)
+
+    fits : (c : Cascade) (b : Bool) → Legible (changed s (andThen (provided 14 b (result (ending end c))) after))
+    fits c true = legible-run (c .tags) s room (behavior (ending end c) s)
+    fits c false = (omega arith, omega arith, λ e. omega arith)
+
+    by : (o : Outcome Cascade) → BookRefusal o → Legible (changed s (andThen (andThen o (fitted end)) after))
+    by (result c) n = fits c (not (badEnd (ending end c)))
     by (refused j nothing) n = absurd n
     by (refused j (byte i)) n = bare j (n .0) (omega (arith, n .1))
     by (refused j (rule i)) n = absurd n
@@ -168,19 +176,19 @@ module _ (table : List ℕ) (bytes : Below 0x100 table) where
 
 -- ---- of compile
 
-module _ (book : List ℕ) (n work room : ℕ) where
-  pub legible-compile : Legible (longOf (compileAnswer book n work room))
-  legible-compile = by (test book n work)
+module _ (book : List ℕ) (end n work room : ℕ) where
+  pub legible-compile : Legible (longOf (compileAnswer book end n work room))
+  legible-compile = by (test book end n work)
     where
-      late : (c : Cascade) → Valid c → 1 ≤ n → n ≤ 256 → {o : Outcome Table} → Told n c o
+      late : (c : Cascade) → ValidEnding c → 1 ≤ n → n ≤ 256 → {o : Outcome Table} → Told n c o
           → Legible (longOf (andThen o (λ t. fitting room (encode (c .tags) t))))
       late c v some most (fits f) =
           let t = tableOf c in
           let few = table-valid c v (omega (arith, whole-few c n some f)) in
           legible-fitting (encode (c .tags) t) (omega (arith, valid-length (c .tags) t few)) (leb (length (encode (c .tags) t)) room)
-      late c v some most (exceeds i x) = (refl, x .some, omega (arith, x .inside, v .few-rules))
+      late c v some most (exceeds i x) = (refl, x .some, omega (arith, x .inside, v .book-valid .few-rules))
 
-      by : {o : Outcome Cascade} → Tested book n work o → Legible (longOf (andThen o (built n room)))
-      by (names-nothing j a b) = bare j a (omega arith)
-      by (names-byte j i a b) = bare j a (omega arith)
+      by : {o : Outcome Cascade} → Tested book end n work o → Legible (longOf (andThen o (built n room)))
+      by (names-nothing j a b d) = (a, b, d)
+      by (names-byte j i a b d) = (a, b, d)
       by (goes-on c v p) = late c v (p .some) (p .most) (told n c)

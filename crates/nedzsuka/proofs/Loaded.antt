@@ -94,17 +94,17 @@ module _ (table before after : List ℕ) (number : ℕ) (call : LoadCall table b
           r .wrote ∙ ap (λ (o : Outcome (List ℕ)). written o out) same ∙ sym (q .wrote),
         )
 
--- compiled, loaded and run: the number and the bytes of nedzsuka_run_book
-pub loaded-book : (book : List ℕ) (n : ℕ) (work room table : List ℕ) (compile-number : ℕ) → CompileCall book n work room table compile-number → compile-number % 256 ≡ 0
+-- compiled, loaded and run: the number and the bytes of nedzsuka_run_book_ending
+pub loaded-book : (book : List ℕ) (end n : ℕ) (work room table : List ℕ) (compile-number : ℕ) → CompileCall book end n work room table compile-number → compile-number % 256 ≡ 0
     → Below 0x100 (take (compile-number / 256) table)
     → (before after : List ℕ) (number : ℕ) → LoadCall (take (compile-number / 256) table) before after number → number % 256 ≡ 0
     → (tail sentence out by-loaded by-book : List ℕ) (loaded-number book-number : ℕ)
     → RunCall (loadedRun (take (number / 256) after ++ tail) sentence (length out)) sentence out by-loaded loaded-number
-    → RunCall (bookRun book sentence (length out)) sentence out by-book book-number
+    → RunCall (bookRun book end sentence (length out)) sentence out by-book book-number
     → (loaded-number ≡ book-number) × (by-loaded ≡ by-book)
-loaded-book book n work room table compile-number c ok bytes before after number l loaded tail sentence out by-loaded by-book loaded-number book-number r q =
+loaded-book book end n work room table compile-number c ok bytes before after number l loaded tail sentence out by-loaded by-book loaded-number book-number r q =
     let o = tableRun (take (compile-number / 256) table) sentence (length out) in
     let by-table : RunCall o sentence out (written o out) (packed (changed sentence o)) = record { answered = refl; wrote = refl } in
     let a = loaded-run _ before after number l bytes loaded tail sentence out by-loaded (written o out) loaded-number (packed (changed sentence o)) r by-table in
-    let b = same-run book n work room table compile-number c ok sentence out (written o out) by-book (packed (changed sentence o)) book-number by-table q in
+    let b = same-run book end n work room table compile-number c ok sentence out (written o out) by-book (packed (changed sentence o)) book-number by-table q in
     (a .0 ∙ b .0, a .1 ∙ b .1)

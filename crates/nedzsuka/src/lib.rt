@@ -11,6 +11,7 @@ use packing::pack_run;
 use words::wide;
 ghost use mathlib.Core.Path.{_≡_};
 ghost use lib.ListN.{length};
+ghost use Rattle.limits.specs.Limits.{no-end};
 ghost use Rattle.answers.specs.Slice.{longOf, written};
 ghost use Rattle.sentences.specs.Run.{changed};
 ghost use Rattle.tagger.specs.Run.{bookRun};
@@ -21,7 +22,24 @@ ghost use Rattle.compiler.specs.Answer.{worked};
 ghost use Rattle.packing.specs.Packed.{packed, packedByte};
 ghost use Rattle.nedzsuka.specs.Sizes.{bookSizes, tableSizes};
 
-// compiler::compile: the number of the table's bytes, or the refusal.
+// compiler::compile_ending: the number of the table's bytes, or the refusal.
+#[no_mangle]
+pub extern "C" fn nedzsuka_compile_ending(
+    book: &[u8],
+    end: u8,
+    ceiling: u64,
+    work: &mut [u16],
+    out: &mut [u8],
+) -> u64
+    ensures answer { λ r. ⌜ r ≡ packed (longOf (compileAnswer (now (book .entry)) end ceiling (length (now (work .entry))) (length (now (out .entry))))) ⌝ }
+    ensures out { λ r. ⌜ now (out .exit) ≡ written (compileAnswer (now (book .entry)) end ceiling (length (now (work .entry))) (length (now (out .entry)))) (now (out .entry)) ⌝ }
+    ensures work { λ r. ⌜ now (work .exit) ≡ worked ceiling (tested (now (book .entry)) end ceiling (length (now (work .entry)))) (now (work .entry)) ⌝ }
+{
+    let answer = compiler::compile_ending(book, end, ceiling as usize, work, out);
+    pack_compile(answer)
+}
+
+// compiler::compile: the same with no end tag.
 #[no_mangle]
 pub extern "C" fn nedzsuka_compile(
     book: &[u8],
@@ -29,19 +47,33 @@ pub extern "C" fn nedzsuka_compile(
     work: &mut [u16],
     out: &mut [u8],
 ) -> u64
-    ensures answer { λ r. ⌜ r ≡ packed (longOf (compileAnswer (now (book .entry)) ceiling (length (now (work .entry))) (length (now (out .entry))))) ⌝ }
-    ensures out { λ r. ⌜ now (out .exit) ≡ written (compileAnswer (now (book .entry)) ceiling (length (now (work .entry))) (length (now (out .entry)))) (now (out .entry)) ⌝ }
-    ensures work { λ r. ⌜ now (work .exit) ≡ worked ceiling (tested (now (book .entry)) ceiling (length (now (work .entry)))) (now (work .entry)) ⌝ }
+    ensures answer { λ r. ⌜ r ≡ packed (longOf (compileAnswer (now (book .entry)) no-end ceiling (length (now (work .entry))) (length (now (out .entry))))) ⌝ }
+    ensures out { λ r. ⌜ now (out .exit) ≡ written (compileAnswer (now (book .entry)) no-end ceiling (length (now (work .entry))) (length (now (out .entry)))) (now (out .entry)) ⌝ }
+    ensures work { λ r. ⌜ now (work .exit) ≡ worked ceiling (tested (now (book .entry)) no-end ceiling (length (now (work .entry)))) (now (work .entry)) ⌝ }
 {
-    let answer = compiler::compile(book, ceiling as usize, work, out);
-    pack_compile(answer)
+    nedzsuka_compile_ending(book, limits::NO_END, ceiling, work, out)
 }
 
-// tagger::run_book: the number of changed tags, or the refusal.
+// tagger::run_book_ending: the number of changed tags, or the refusal.
+#[no_mangle]
+pub extern "C" fn nedzsuka_run_book_ending(
+    book: &[u8],
+    end: u8,
+    sentence: &[u8],
+    out: &mut [u8],
+) -> u64
+    ensures answer { λ r. ⌜ r ≡ packed (changed (now (sentence .entry)) (bookRun (now (book .entry)) end (now (sentence .entry)) (length (now (out .entry))))) ⌝ }
+    ensures out { λ r. ⌜ now (out .exit) ≡ written (bookRun (now (book .entry)) end (now (sentence .entry)) (length (now (out .entry)))) (now (out .entry)) ⌝ }
+{
+    let answer = tagger::run_book_ending(book, end, sentence, out);
+    pack_run(answer)
+}
+
+// tagger::run_book: the same with no end tag.
 #[no_mangle]
 pub extern "C" fn nedzsuka_run_book(book: &[u8], sentence: &[u8], out: &mut [u8]) -> u64
-    ensures answer { λ r. ⌜ r ≡ packed (changed (now (sentence .entry)) (bookRun (now (book .entry)) (now (sentence .entry)) (length (now (out .entry))))) ⌝ }
-    ensures out { λ r. ⌜ now (out .exit) ≡ written (bookRun (now (book .entry)) (now (sentence .entry)) (length (now (out .entry)))) (now (out .entry)) ⌝ }
+    ensures answer { λ r. ⌜ r ≡ packed (changed (now (sentence .entry)) (bookRun (now (book .entry)) no-end (now (sentence .entry)) (length (now (out .entry))))) ⌝ }
+    ensures out { λ r. ⌜ now (out .exit) ≡ written (bookRun (now (book .entry)) no-end (now (sentence .entry)) (length (now (out .entry)))) (now (out .entry)) ⌝ }
 {
     let answer = tagger::run_book(book, sentence, out);
     pack_run(answer)

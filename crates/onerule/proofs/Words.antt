@@ -3,26 +3,29 @@ use Prim.Native.Nat.{ℕ, suc, _+_, _-_, _≤_, _<_, min}
 use native.Mathlib.Omega.{arith}
 use native.Mathlib.Decide.{ℕ-discrete, decLt}
 use native.Mathlib.Numerals.{add-one}
-use mathlib.Core.Path.{_≡_, refl, sym, ap, ap₂, _∙_}
+use mathlib.Core.Path.{_≡_, refl, sym, ap, ap₂, _∙_, subst}
 use mathlib.Core.Bool.{Bool, true, false}
-use mathlib.Core.List.{List, [], _∷_, _++_}
-use borrow.Author.Tests.{eqb-false}
+use mathlib.Core.List.{List, [], _∷_, _++_, append-nil}
+use borrow.Author.Tests.{eqb-true, eqb-false}
 use lib.Dec.{eqb}
 use lib.ListN.{length, set, take, drop, length-append, length-drop, length-take, length-set, drop-of-length-le}
 use lib.Seq.{drop-cons, getD-set-same, drop-set-lt, take-length, take-all, take-append-le, take-take, take-add, drop-at, length-take-le}
 use Rattle.words.specs.Overlap.{overlap}
 use Rattle.words.proofs.Overlap.{overlap-le}
+use Rattle.cascades.specs.Ending.{before}
 use Rattle.transducers.specs.Canonical.{Inside}
 use Rattle.minimal.specs.Matcher.{held}
 use Rattle.minimal.specs.OneRule.{borders, oneRule}
 use Rattle.minimal.proofs.Matcher.{held-in, held-all, said-after, said-match, said-on, moves-after}
 use Rattle.minimal.proofs.OneRule.{borders-move}
+use Rattle.minimal.proofs.Ending.{quiet-rule}
 use Rattle.workspace.specs.declared.Grid.{Grid}
-use Rattle.workspace.specs.Entries.{FINAL}
+use Rattle.workspace.specs.Entries.{OUTPUT, FINAL}
 use Rattle.workspace.specs.Cells.{part}
+use Rattle.workspace.specs.Cells.{Fits}
 use Rattle.workspace.specs.Holds.{Roomy}
 use Rattle.workspace.proofs.Appending.{part-length}
-use Rattle.onerule.specs.Rule.{rule, goes, says, keeps}
+use Rattle.onerule.specs.Rule.{rule, goes, says, keeps, afresh, restarts}
 use Rattle.onerule.proofs.Borders.{matched, matched-length}
 
 part-lesser : (u : List ℕ) (p j : ℕ) → j ≤ length u → part (min p j) j u ≡ part p j u
@@ -147,3 +150,35 @@ module _ (u : List ℕ) (p b : ℕ) where
 
   pub inside-rule : (k : ℕ) → Inside k (oneRule (rule u p b))
   inside-rule k j a hj ha = omega (arith, goes-below j a (omega arith))
+
+  -- after an end tag nothing is held, so that beginning afresh puts out no more
+  module _ (e : ℕ) (free : before e u ≡ false) where
+    pub output-afresh : (j a : ℕ) → j ≤ length u → says (rule u p b) j a ≡ afresh e (rule u p b) .output j a
+    output-afresh j a h = by (eqb a e) refl
+      where
+        by : (t : Bool) → eqb a e ≡ t
+            → says (rule u p b) j a ≡ elim t as (λ x. List ℕ) [ true ↦ says (rule u p b) j a ++ keeps (rule u p b) (goes (rule u p b) j a) | false ↦ says (rule u p b) j a ]
+        by true f =
+            let none : keeps (rule u p b) (goes (rule u p b) j a) ≡ [] =
+            subst (λ (x : ℕ). keeps (rule u p b) (goes (rule u p b) j x) ≡ []) (sym (eqb-true a e f)) (quiet-rule e (rule u p b) free j h)
+            in
+            sym (ap (λ (l : List ℕ). says (rule u p b) j a ++ l) none ∙ append-nil (says (rule u p b) j a))
+        by false f = refl
+
+    pub roomy-afresh : (g : Grid) → p < length u → length u + FINAL ≤ g .depth → Roomy g (afresh e (rule u p b))
+    roomy-afresh g inside deep =
+        let roomy = roomy-rule g inside deep in
+        record {
+          outputs = λ j a hj ha. subst (λ (l : List ℕ). Fits g OUTPUT (length l)) (output-afresh j a (omega arith)) (roomy .outputs j a hj ha);
+          finals = roomy .finals;
+        }
+
+    pub restarts-below : (j a : ℕ) → j ≤ length u → restarts e a (goes (rule u p b) j a) ≤ length u
+    restarts-below j a h = by (eqb a e)
+      where
+        by : (t : Bool) → elim t as (λ x. ℕ) [ true ↦ 0 | false ↦ goes (rule u p b) j a ] ≤ length u
+        by true = omega arith
+        by false = goes-below j a h
+
+    pub inside-afresh : (k : ℕ) → Inside k (afresh e (rule u p b))
+    inside-afresh k j a hj ha = omega (arith, restarts-below j a (omega arith))

@@ -13,16 +13,17 @@ use workspace::push;
 use workspace::put;
 ghost use mathlib.Core.Path.{_≡_};
 ghost use Prim.Native.Nat.{_+_, _≤_, _<_};
+ghost use mathlib.Core.Bool.{false};
 ghost use mathlib.Core.List.{[], _∷_, _++_};
 ghost use lib.ListN.{length, drop, take};
 ghost use Rattle.words.specs.Word.{prefix};
 ghost use Rattle.words.specs.Overlap.{overlap};
 ghost use Rattle.cascades.specs.Value.{ruleOf, Formed};
-ghost use Rattle.minimal.specs.OneRule.{oneRule};
+ghost use Rattle.cascades.specs.Ending.{before};
 ghost use Rattle.workspace.specs.Entries.{OUTPUT, FINAL};
 ghost use Rattle.workspace.specs.Cells.{at, word, Sized, Written, part};
 ghost use Rattle.workspace.specs.Holds.{Stepped, Stepping, Rowed};
-ghost use Rattle.onerule.specs.Rule.{rule, goes, says, keeps, Room, Ruled};
+ghost use Rattle.onerule.specs.Rule.{rule, goes, says, keeps, afresh, restarts, Room, Ruled};
 
 // Whether the tags of the pattern u from s to j, and a after them, are the first ones of u.
 fn overlaps(u: &[u8], j: usize, a: usize, s: usize) -> bool
@@ -122,6 +123,16 @@ fn write_output(
     push(work, g, r, a, OUTPUT, a);
 }
 
+// The state after a tag: the start after an end tag.
+fn restart(next: usize, a: usize, end: usize) -> usize
+    ensures { λ r. ⌜ r ≡ restarts end a next ⌝ }
+{
+    if a == end {
+        return 0;
+    }
+    next
+}
+
 fn write_step(
     work: &mut [u16],
     g: Grid,
@@ -129,27 +140,37 @@ fn write_step(
     u: &[u8],
     place: usize,
     tag: u8,
+    end: usize,
     j: usize,
     a: usize,
 )
     requires { ⌜ Room g (now work) (rule (now u) place tag) ⌝ }
-    requires { ⌜ (r < g .rows) × (a < g .tags) × (j ≤ length (now u)) ⌝ }
-    ensures { λ _. ⌜ Stepped g (now (work .entry)) (now (work .exit)) r a (goes (rule (now (u .entry)) place tag) j a) (says (rule (now (u .entry)) place tag) j a) ⌝ }
+    requires { ⌜ (r < g .rows) × (a < g .tags) × (j ≤ length (now u)) × (before end (now u) ≡ false) ⌝ }
+    ensures { λ _. ⌜ Stepped g (now (work .entry)) (now (work .exit)) r a (afresh end (rule (now (u .entry)) place tag) .next j a) (afresh end (rule (now (u .entry)) place tag) .output j a) ⌝ }
 {
     let next = next_of(u, j, a, place, tag);
-    put(work, g, r, a, NEXT, next);
+    put(work, g, r, a, NEXT, restart(next, a, end));
     write_output(work, g, r, u, place, tag, j, a, next);
 }
 
-fn write_steps(work: &mut [u16], g: Grid, r: usize, u: &[u8], place: usize, tag: u8, j: usize)
+fn write_steps(
+    work: &mut [u16],
+    g: Grid,
+    r: usize,
+    u: &[u8],
+    place: usize,
+    tag: u8,
+    end: usize,
+    j: usize,
+)
     requires { ⌜ Room g (now work) (rule (now u) place tag) ⌝ }
-    requires { ⌜ (r < g .rows) × (j ≤ length (now u)) ⌝ }
-    ensures { λ _. ⌜ Stepping g (now (work .entry)) (now (work .exit)) r (oneRule (rule (now (u .entry)) place tag)) j (g .tags) ⌝ }
+    requires { ⌜ (r < g .rows) × (j ≤ length (now u)) × (before end (now u) ≡ false) ⌝ }
+    ensures { λ _. ⌜ Stepping g (now (work .entry)) (now (work .exit)) r (afresh end (rule (now (u .entry)) place tag)) j (g .tags) ⌝ }
 {
     let tags = g.tags;
     let mut a = 0;
     while a < tags {
-        write_step(work, g, r, u, place, tag, j, a);
+        write_step(work, g, r, u, place, tag, end, j, a);
         a += 1;
     }
 }
@@ -166,37 +187,54 @@ fn write_final(work: &mut [u16], g: Grid, r: usize, u: &[u8], place: usize, tag:
     push_part(work, g, r, g.tags, FINAL, u, lesser(place, j), j);
 }
 
-fn write_state(work: &mut [u16], g: Grid, r: usize, u: &[u8], place: usize, tag: u8, j: usize)
+fn write_state(
+    work: &mut [u16],
+    g: Grid,
+    r: usize,
+    u: &[u8],
+    place: usize,
+    tag: u8,
+    end: usize,
+    j: usize,
+)
     requires { ⌜ Room g (now work) (rule (now u) place tag) ⌝ }
-    requires { ⌜ (r < g .rows) × (j ≤ length (now u)) ⌝ }
-    ensures { λ _. ⌜ Rowed g (now (work .entry)) (now (work .exit)) r (oneRule (rule (now (u .entry)) place tag)) j ⌝ }
+    requires { ⌜ (r < g .rows) × (j ≤ length (now u)) × (before end (now u) ≡ false) ⌝ }
+    ensures { λ _. ⌜ Rowed g (now (work .entry)) (now (work .exit)) r (afresh end (rule (now (u .entry)) place tag)) j ⌝ }
 {
-    write_steps(work, g, r, u, place, tag, j);
+    write_steps(work, g, r, u, place, tag, end, j);
     write_final(work, g, r, u, place, tag, j);
 }
 
 // The states of the rule's transducer to the rows from `base`: their number.
-fn write_states(work: &mut [u16], g: Grid, base: usize, u: &[u8], place: usize, tag: u8) -> usize
+fn write_states(
+    work: &mut [u16],
+    g: Grid,
+    base: usize,
+    u: &[u8],
+    place: usize,
+    tag: u8,
+    end: usize,
+) -> usize
     requires { ⌜ Room g (now work) (rule (now u) place tag) ⌝ }
-    requires { ⌜ base + (length (now u) + 1) ≤ g .rows ⌝ }
-    ensures { λ count. ⌜ Ruled g (now (work .entry)) (now (work .exit)) base count (rule (now (u .entry)) place tag) ⌝ }
+    requires { ⌜ (base + (length (now u) + 1) ≤ g .rows) × (before end (now u) ≡ false) ⌝ }
+    ensures { λ count. ⌜ Ruled g (now (work .entry)) (now (work .exit)) base count end (rule (now (u .entry)) place tag) ⌝ }
 {
     let mut j = 0;
     while j <= u.len() {
-        write_state(work, g, base + j, u, place, tag, j);
+        write_state(work, g, base + j, u, place, tag, end, j);
         j += 1;
     }
     j
 }
 
-// The rule's transducer to the rows from `base`: the number of its states.
-pub fn write_rule(work: &mut [u16], g: Grid, base: usize, rule: Rule) -> usize
+// The rule's transducer, which begins afresh after an end tag, to the rows from `base`: the number of its states.
+pub fn write_rule(work: &mut [u16], g: Grid, base: usize, rule: Rule, end: usize) -> usize
     requires { ⌜ Formed rule ⌝ }
     requires { ⌜ Room g (now work) (ruleOf rule) ⌝ }
-    requires { ⌜ base + (length (ruleOf rule .pattern) + 1) ≤ g .rows ⌝ }
-    ensures { λ count. ⌜ Ruled g (now (work .entry)) (now (work .exit)) base count (ruleOf rule) ⌝ }
+    requires { ⌜ (base + (length (ruleOf rule .pattern) + 1) ≤ g .rows) × (before end (ruleOf rule .pattern) ≡ false) ⌝ }
+    ensures { λ count. ⌜ Ruled g (now (work .entry)) (now (work .exit)) base count end (ruleOf rule) ⌝ }
 {
     let row = rule.row;
     let length = rule.length;
-    write_states(work, g, base, &row[..length], rule.place, rule.tag)
+    write_states(work, g, base, &row[..length], rule.place, rule.tag, end)
 }

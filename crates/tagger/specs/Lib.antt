@@ -1,3 +1,4 @@
 -- The run of a book.
 pub mod Run
 pub mod Rules
+pub mod Pieces

@@ -1,10 +1,11 @@
--- Rules of the reader's arrays that can be applied to a sentence.
-use Prim.Native.Nat.{ℕ, _≤_, _<_}
-use lib.ListN.{getD}
-use Rattle.limits.specs.Limits.{most-rules}
-use Rattle.books.specs.Arrays.{Arrays, Shaped, placeAt}
+-- The run of a book that has been read.
+use Prim.Native.Nat.{ℕ}
+use mathlib.Core.List.{List}
+use Rattle.answers.specs.Outcome.{Outcome, andThen}
+use Rattle.cascades.specs.Rule.{Cascade}
+use Rattle.cascades.specs.Rewrite.{behavior}
+use Rattle.books.specs.Ending.{fitted}
+use Rattle.sentences.specs.Run.{run}
 
-pub record Applicable (m : ℕ) (a : Arrays) : Type 0 where
-  pub shaped : Shaped a
-  pub few : m ≤ most-rules
-  pub inside : (i : ℕ) → i < m → placeAt a i < getD (a .lengths) i 0
+abbrev pub cascadeRun : ℕ → Cascade → List ℕ → ℕ → Outcome (List ℕ)
+cascadeRun end c sentence room = andThen (fitted end c) (λ b. run (b .tags) sentence room (behavior b sentence))

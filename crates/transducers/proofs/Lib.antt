@@ -4,6 +4,7 @@ pub mod Lower
 pub mod Unique
 pub mod Tabulate
 pub mod Compose
+pub mod Ended
 pub mod Rounds
 pub mod Normalize
 pub mod Find

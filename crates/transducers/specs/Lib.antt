@@ -6,6 +6,7 @@ pub mod Numbered
 pub mod Canonical
 pub mod Tabulate
 pub mod Compose
+pub mod Ended
 pub mod Rounds
 pub mod Normalize
 pub mod Find

@@ -3,4 +3,5 @@ pub mod Word
 pub mod Front
 pub mod Overlap
 pub mod Decides
+pub mod Pieces
 pub mod Regions

@@ -21,6 +21,11 @@ below-suc i n h = by (decLt i n)
     by (yes lt) = inl lt
     by (no nlt) = inr (omega arith)
 
+-- below k, and so below every greater number
+pub below-mono : (k m : ℕ) (w : List ℕ) → k ≤ m → Below k w → Below m w
+below-mono k m [] h b = tt
+below-mono k m (a ∷ w) h b = (omega (arith, b .0), below-mono k m w h (b .1))
+
 pub below-append : (k : ℕ) (u v : List ℕ) → Below k u → Below k v → Below k (u ++ v)
 below-append k [] v hu hv = hv
 below-append k (a ∷ u) v hu hv = (hu .0, below-append k u v (hu .1) hv)

@@ -3,3 +3,4 @@ pub mod Word
 pub mod Front
 pub mod Overlap
 pub mod Decides
+pub mod Pieces

@@ -5,7 +5,7 @@ use borrow.Author.Needs.{needs}
 use mathlib.Core.Path.{refl}
 use Rattle.limits.specs.Limits.{work-rows, work-depth}
 use Rattle.books.specs.Arrays.{Arrays, holding}
-use Rattle.compiler.proofs.Reading.{product-small, compilable, readable, short, ended}
+use Rattle.compiler.proofs.Reading.{product-small, compilable, in-code, short, ended}
 use Rattle.compiler.proofs.compile_read.Statement.{statement}
 use Rattle.compiler.proofs.compile_read.Tie as tie
 use Rattle.compiler.proofs.compile_read.Reads as reads
@@ -36,26 +36,33 @@ mul-entries-3 : tie.Need-mul-entries-3
 mul-entries-3 c =
     let st = c .before .before .before .before .before in
     let w = c .before .before .wide in
-    omega (arith, (product-small (work-rows (st .args .ceiling)) (w .result + 1) (work-depth (st .args .m)) (omega (arith, st .pre .most)) (omega (arith, w .ensures .0, st .pre .tags)) (omega (arith, st .pre .held .few))) .0)
+    omega (arith, (product-small (work-rows (st .args .ceiling)) (w .result + 1) (work-depth (st .args .m)) (omega (arith, st .pre .0 .most)) (omega (arith, w .ensures .0, st .pre .0 .tags)) (omega (arith, st .pre .0 .held .few))) .0)
 
 mul-entries-4 : tie.Need-mul-entries-4
 mul-entries-4 c =
     let st = c .before .before .before .before .before .before in
     let w = c .before .before .before .wide in
-    omega (arith, (product-small (work-rows (st .args .ceiling)) (w .result + 1) (work-depth (st .args .m)) (omega (arith, st .pre .most)) (omega (arith, w .ensures .0, st .pre .tags)) (omega (arith, st .pre .held .few))) .1)
+    omega (arith, (product-small (work-rows (st .args .ceiling)) (w .result + 1) (work-depth (st .args .m)) (omega (arith, st .pre .0 .most)) (omega (arith, w .ensures .0, st .pre .0 .tags)) (omega (arith, st .pre .0 .held .few))) .1)
 
 returns : tie.Need-returns
 returns c =
     let st = c .before .before .before .before .before .before .before in
     let w = c .before .before .before .before .wide in
-    short (st .args .k) (st .args .ceiling) (st .args .m) (the-arrays st) (st .pre) (w .result) (w .ensures .0) (st .args .work .now) (st .args .out .now) (omega arith) _ refl
+    short (st .args .k) (st .args .ceiling) (st .args .end) (st .args .m) (the-arrays st) (w .result) (w .ensures .0) (st .args .work .now) (st .args .out .now) (omega arith) _ refl
+
+wide-requires-2 : tie.Need-wide-requires-2
+wide-requires-2 c κs = search needs
 
 build-requires : tie.Need-build-requires
 build-requires c κs =
-    let st = c .before .before .before .before .before .before .before .before .before in
-    let w = c .before .before .before .before .before .before .wide in
-    compilable (w .result) (st .args .ceiling) (st .args .m) (the-arrays st) (st .args .work .now)
-    (readable (st .args .k) (st .args .ceiling) (st .args .m) (the-arrays st) (st .pre) (w .result) (w .ensures .0)) (omega arith)
+    let st = c .before .before .before .before .before .before .before .before .before .before in
+    let w = c .before .before .before .before .before .before .before .wide in
+    let l = c .before .before .wide2 in
+    let ok =
+    in-code (st .args .k) (st .args .ceiling) (st .args .end) (st .args .m) (the-arrays st) (w .result) (w .ensures .0) (st .pre .0) (st .pre .1) (l .result)
+    (l .ensures .0)
+    in
+    compilable (w .result) (st .args .ceiling) (l .result) (st .args .m) (the-arrays st) (st .args .work .now) (ok .0) (ok .1) (omega arith)
 
 wipe-requires : tie.Need-wipe-requires
 wipe-requires c κs = search needs
@@ -68,11 +75,12 @@ same-length-2 c = search needs
 
 returns-2 : tie.Need-returns-2
 returns-2 c =
-    let st = c .before .before .before .before .before .before .before .before .before .before .before .before .before .before .before .before .before .before in
-    let w = c .before .before .before .before .before .before .before .before .before .before .before .before .before .before .before .wide in
+    let st = c .before .before .before .before .before .before .before .before .before .before .before .before .before .before .before .before .before .before .before in
+    let w = c .before .before .before .before .before .before .before .before .before .before .before .before .before .before .before .before .wide in
+    let l = c .before .before .before .before .before .before .before .before .before .before .before .wide2 in
     let u = c .before .before .before .before .before .before .before .before .build in
-    ended (st .args .k) (st .args .ceiling) (st .args .m) (the-arrays st) (st .pre) (w .result) (w .ensures .0) (st .args .work .now) (u .last .0) _ (st .args .out .now) _ _ (omega arith) (u .ensures .0) (u .ensures .1)
-    (c .before .before .wipe .ensures)
+    ended (st .args .k) (st .args .ceiling) (st .args .end) (st .args .m) (the-arrays st) (w .result) (w .ensures .0) (l .result) (l .ensures .0)
+    (st .args .work .now) (u .last .0) _ (st .args .out .now) _ _ (omega arith) (u .ensures .0) (u .ensures .1) (c .before .before .wipe .ensures)
 
 pub compile-read-spec : {M : Type 1} → statement M
 compile-read-spec =
@@ -86,6 +94,7 @@ compile-read-spec =
     mul-entries-3
     mul-entries-4
     returns
+    wide-requires-2
     build-requires
     wipe-requires
     same-length

@@ -1,8 +1,8 @@
-use Rattle.onerule.proofs.Words.{roomy-rule, inside-rule}
-use Rattle.onerule.specs.Rule.{rule}
+use Rattle.onerule.proofs.Words.{roomy-afresh, inside-afresh}
+use Rattle.onerule.specs.Rule.{rule, afresh}
 use Rattle.workspace.proofs.Holds.{filling-start, filling-next, holds-table}
 use Rattle.workspace.specs.Holds.{Filling}
-use Rattle.minimal.specs.OneRule.{oneRule, ruleTable}
+use Rattle.minimal.specs.OneRule.{ruleTable}
 use Rattle.minimal.proofs.TableOf.{doing-rule}
 use Rattle.transducers.proofs.Tabulate.{length-table}
 use mathlib.Core.Path.{_≡_, _∙_}
@@ -17,22 +17,22 @@ use Rattle.onerule.proofs.write_states.Lts as lts
 use Rattle.onerule.proofs.write_state.Reads as write-state-reads
 
 abbrev Inv-loop : tie.InvT-loop
-Inv-loop work₀ g base u place tag j₀ work j = (j ≤ length u + 1) × Filling g work₀ work base (length u + 1) (oneRule (rule u place tag)) j
+Inv-loop work₀ g base u place tag end j₀ work j = (j ≤ length u + 1) × Filling g work₀ work base (length u + 1) (afresh end (rule u place tag)) j
 
 abbrev μ-loop : tie.MeasureT-loop
-μ-loop work₀ g base u place tag j₀ work j = length u + 1 - j
+μ-loop work₀ g base u place tag end j₀ work j = length u + 1 - j
 
 loop-holds : tie.Need-loop-holds Inv-loop μ-loop
 loop-holds c = let st = c .before .before in let a = st .args in (
   omega arith,
-  filling-start (a .g) (a .base) _ (oneRule (rule (a .u .now) (a .place) (a .tag))) (roomy-rule (a .u .now) (a .place) (a .tag) (a .g) (st .pre .0 .place-inside) (st .pre .0 .deep)) (omega arith) (a .work .now),
+  filling-start (a .g) (a .base) _ (afresh (a .end) (rule (a .u .now) (a .place) (a .tag))) (roomy-afresh (a .u .now) (a .place) (a .tag) (a .end) (st .pre .1 .1) (a .g) (st .pre .0 .place-inside) (st .pre .0 .deep)) (omega arith) (a .work .now),
 )
 
 add-write-state : tie.Need-add-write-state Inv-loop μ-loop
 add-write-state c = search needs
 
 write-state-requires : tie.Need-write-state-requires Inv-loop μ-loop
-write-state-requires c κs = search needs
+write-state-requires c κs = (search needs, (omega arith, omega arith, c .before .before .before .before .before .pre .1 .1))
 
 add-j : tie.Need-add-j Inv-loop μ-loop
 add-j c = search needs
@@ -43,7 +43,7 @@ loop-less c = search needs
 loop-again : tie.Need-loop-again Inv-loop μ-loop
 loop-again c = let st = c .before .before .before .before .before .before .before .before in let a = st .args in (
   omega arith,
-  filling-next (a .g) (a .base) (length (a .u .now) + 1) (oneRule (rule (a .u .now) (a .place) (a .tag))) (roomy-rule (a .u .now) (a .place) (a .tag) (a .g) (st .pre .0 .place-inside) (st .pre .0 .deep)) (omega arith) _ _ _ _ (omega arith) (c .before .before .before .before .before .loop .inv .1) (c .before .before .write-state .ensures),
+  filling-next (a .g) (a .base) (length (a .u .now) + 1) (afresh (a .end) (rule (a .u .now) (a .place) (a .tag))) (roomy-afresh (a .u .now) (a .place) (a .tag) (a .end) (st .pre .1 .1) (a .g) (st .pre .0 .place-inside) (st .pre .0 .deep)) (omega arith) _ _ _ _ (omega arith) (c .before .before .before .before .before .loop .inv .1) (c .before .before .write-state .ensures),
 )
 
 same-length : tie.Need-same-length Inv-loop μ-loop
@@ -56,10 +56,10 @@ returns c = let st = c .before .before .before .before in let a = st .args in le
       kept = rw last (l .inv .1 .kept);
       stands = λ m v.
           record {
-            made = record { table = ruleTable (a .g .tags) r; long = length-table (a .g .tags) (oneRule r) ∙ (omega arith); doing = doing-rule m (a .g .tags) r v; so = tt };
+            made = record { table = ruleTable (a .g .tags) (a .end) r; long = length-table (a .g .tags) (afresh (a .end) r) ∙ (omega arith); doing = doing-rule m (a .g .tags) (a .end) r v; so = tt };
             holds =
-                holds-table (a .g) (l .work) (a .base) (oneRule r) (omega arith) (inside-rule (a .u .now) (a .place) (a .tag) (a .g .tags))
-                (roomy-rule (a .u .now) (a .place) (a .tag) (a .g) (st .pre .0 .place-inside) (st .pre .0 .deep)) (λ q h. l .inv .1 .states q (omega arith));
+                holds-table (a .g) (l .work) (a .base) (afresh (a .end) r) (omega arith) (inside-afresh (a .u .now) (a .place) (a .tag) (a .end) (st .pre .1 .1) (a .g .tags))
+                (roomy-afresh (a .u .now) (a .place) (a .tag) (a .end) (st .pre .1 .1) (a .g) (st .pre .0 .place-inside) (st .pre .0 .deep)) (λ q h. l .inv .1 .states q (omega arith));
           };
     }
 

@@ -1,5 +1,12 @@
-use Rattle.onerule.proofs.Words.{goes-below}
+-- `onerule::write_step` meets its contract.
+use Rattle.onerule.proofs.Words.{restarts-below, output-afresh}
+use Rattle.workspace.specs.declared.Grid.{Grid}
+use Rattle.onerule.specs.Rule.{restarts}
+use Rattle.workspace.specs.Holds.{Stepped}
 use Rattle.workspace.proofs.Holds.{stepped}
+use Prim.Native.Nat.{ℕ}
+use mathlib.Core.List.{List}
+use mathlib.Core.Path.{_≡_, ap, _∙_, subst}
 use native.Mathlib.Omega.{arith}
 use borrow.Author.Needs.{needs}
 use Rattle.onerule.proofs.write_step.Statement.{statement}
@@ -7,14 +14,26 @@ use Rattle.onerule.proofs.write_step.Tie as tie
 use Rattle.onerule.proofs.write_step.Reads as reads
 use Rattle.onerule.proofs.write_step.Lts as lts
 use Rattle.onerule.proofs.next_of.Reads as next-of-reads
+use Rattle.onerule.proofs.restart.Reads as restart-reads
 use Rattle.onerule.proofs.write_output.Reads as write-output-reads
 use Rattle.workspace.proofs.put.Reads as put-reads
+
+-- another way to say the same step
+stepped-as : {g : Grid} {W X : List ℕ} {r a n m : ℕ} {v w : List ℕ} → n ≡ m → v ≡ w → Stepped g W X r a n v → Stepped g W X r a m w
+stepped-as {g} {W} {X} {r} {a} {n} {m} {v} {w} e f h = subst (λ (l : List ℕ). Stepped g W X r a m l) f (subst (λ (q : ℕ). Stepped g W X r a q v) e h)
 
 next-of-requires : tie.Need-next-of-requires
 next-of-requires c κs = search needs
 
+restart-requires : tie.Need-restart-requires
+restart-requires c = search needs
+
 put-requires : tie.Need-put-requires
-put-requires c κs = let a = c .before .before .before .before .args in omega (arith, goes-below (a .u .now) (a .place) (a .tag) (a .j) (a .a) (omega arith))
+put-requires c κs =
+    let st = c .before .before .before .before .before in
+    let a = st .args in
+    let next = c .restart .ensures ∙ ap (restarts (a .end) (a .a)) (c .before .before .next-of .ensures) in
+    omega (arith, next, restarts-below (a .u .now) (a .place) (a .tag) (a .end) (st .pre .1 .3) (a .j) (a .a) (omega arith))
 
 write-output-requires : tie.Need-write-output-requires
 write-output-requires c κs = search needs
@@ -23,8 +42,13 @@ same-length : tie.Need-same-length
 same-length c = search needs
 
 returns : tie.Need-returns
-returns c = let a = c .before .before .before .before .before .before .before .before .before .before .before .args in rw (← c .before .before .before .before .before .before .before .before .next-of .ensures) (stepped (a .g) _ _ _ _ _ _ _ (omega arith) (omega arith) (c .before .before .before .before .before .before .put .ensures) (c .before .before .write-output .ensures))
+returns c =
+    let st = c .before .before .before .before .before .before .before .before .before .before .before .before in
+    let a = st .args in
+    let next = c .before .before .before .before .before .before .before .restart .ensures ∙ ap (restarts (a .end) (a .a)) (c .before .before .before .before .before .before .before .before .before .next-of .ensures) in
+    stepped-as next (output-afresh (a .u .now) (a .place) (a .tag) (a .end) (st .pre .1 .3) (a .j) (a .a) (omega arith))
+    (stepped (a .g) _ _ _ _ _ _ _ (omega arith) (omega arith) (c .before .before .before .before .before .before .put .ensures) (c .before .before .write-output .ensures))
 
 pub write-step-spec : {M : Type 1} → statement M
 write-step-spec =
-    tie.close (tie.spec next-of-requires put-requires write-output-requires same-length returns)
+    tie.close (tie.spec next-of-requires restart-requires put-requires write-output-requires same-length returns)

@@ -1,8 +1,7 @@
-use Rattle.onerule.proofs.Words.{roomy-rule}
-use Rattle.onerule.specs.Rule.{rule}
+use Rattle.onerule.proofs.Words.{roomy-afresh}
+use Rattle.onerule.specs.Rule.{rule, afresh}
 use Rattle.workspace.proofs.Holds.{stepping-start, stepping-next}
 use Rattle.workspace.specs.Holds.{Stepping}
-use Rattle.minimal.specs.OneRule.{oneRule}
 use native.Mathlib.Omega.{arith}
 use mathlib.Core.Path.{_≡_, subst}
 use Prim.Native.Nat.{_-_, _≤_, ℕ}
@@ -14,15 +13,15 @@ use Rattle.onerule.proofs.write_steps.Lts as lts
 use Rattle.onerule.proofs.write_step.Reads as write-step-reads
 
 abbrev Inv-loop : tie.InvT-loop
-Inv-loop work₀ g r u place tag j tags a₀ work a = (a ≤ g .tags) × Stepping g work₀ work r (oneRule (rule u place tag)) j a
+Inv-loop work₀ g r u place tag end j tags a₀ work a = (a ≤ g .tags) × Stepping g work₀ work r (afresh end (rule u place tag)) j a
 
 abbrev μ-loop : tie.MeasureT-loop
-μ-loop work₀ g r u place tag j tags a₀ work a = tags - a
+μ-loop work₀ g r u place tag end j tags a₀ work a = tags - a
 
 loop-holds : tie.Need-loop-holds Inv-loop μ-loop
 loop-holds c = let st = c .before .before in let a = st .args in (
   omega arith,
-  stepping-start (a .g) (a .r) (oneRule (rule (a .u .now) (a .place) (a .tag))) (a .j) (omega arith) (roomy-rule (a .u .now) (a .place) (a .tag) (a .g) (st .pre .0 .place-inside) (st .pre .0 .deep)) (a .work .now),
+  stepping-start (a .g) (a .r) (afresh (a .end) (rule (a .u .now) (a .place) (a .tag))) (a .j) (omega arith) (roomy-afresh (a .u .now) (a .place) (a .tag) (a .end) (st .pre .1 .2) (a .g) (st .pre .0 .place-inside) (st .pre .0 .deep)) (a .work .now),
 )
 
 write-step-requires : tie.Need-write-step-requires Inv-loop μ-loop
@@ -37,7 +36,7 @@ loop-less c = search needs
 loop-again : tie.Need-loop-again Inv-loop μ-loop
 loop-again c = let st = c .before .before .before .before .before .before .before .before in let a = st .args in (
   omega arith,
-  stepping-next (a .g) (a .r) (oneRule (rule (a .u .now) (a .place) (a .tag))) (a .j) (omega arith) (roomy-rule (a .u .now) (a .place) (a .tag) (a .g) (st .pre .0 .place-inside) (st .pre .0 .deep)) _ _ _ _ (omega arith) (c .before .before .before .before .before .loop .inv .1) (c .before .before .write-step .ensures),
+  stepping-next (a .g) (a .r) (afresh (a .end) (rule (a .u .now) (a .place) (a .tag))) (a .j) (omega arith) (roomy-afresh (a .u .now) (a .place) (a .tag) (a .end) (st .pre .1 .2) (a .g) (st .pre .0 .place-inside) (st .pre .0 .deep)) _ _ _ _ (omega arith) (c .before .before .before .before .before .loop .inv .1) (c .before .before .write-step .ensures),
 )
 
 same-length : tie.Need-same-length Inv-loop μ-loop
@@ -45,7 +44,7 @@ same-length c = c .before .loop .inv .1 .kept .long
 
 returns : tie.Need-returns Inv-loop μ-loop
 returns c = let a = c .before .before .before .before .args in let e : c .before .loop .a ≡ a .g .tags = omega arith in
-    subst (λ (n : ℕ). Stepping (a .g) (a .work .now) (c .before .loop .work) (a .r) (oneRule (rule (a .u .now) (a .place) (a .tag))) (a .j) n) e (c .before .loop .inv .1)
+    subst (λ (n : ℕ). Stepping (a .g) (a .work .now) (c .before .loop .work) (a .r) (afresh (a .end) (rule (a .u .now) (a .place) (a .tag))) (a .j) n) e (c .before .loop .inv .1)
 
 pub write-steps-spec : {M : Type 1} → statement M
 write-steps-spec =

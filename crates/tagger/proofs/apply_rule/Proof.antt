@@ -7,7 +7,7 @@ use Rattle.tagger.proofs.apply_rule.Statement.{statement}
 use Rattle.tagger.proofs.apply_rule.Tie as tie
 use Rattle.tagger.proofs.apply_rule.Reads as reads
 use Rattle.tagger.proofs.apply_rule.Lts as lts
-use Rattle.tagger.proofs.rewrite_leftmost.Reads as rewrite-leftmost-reads
+use Rattle.leftmost.proofs.rewrite_leftmost.Reads as rewrite-leftmost-reads
 
 array-share-prefix-row : tie.Need-array-share-prefix-row
 array-share-prefix-row c = let st = c .before .before .before in omega (arith, st .pre .0 .row-long, st .pre .0 .length-short)

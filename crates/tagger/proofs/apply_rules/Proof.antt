@@ -7,7 +7,8 @@ use lib.ListN.{length}
 use Rattle.cascades.specs.Rewrite.{applyAll}
 use Rattle.cascades.specs.Value.{ruleOf}
 use Rattle.books.specs.Arrays.{Arrays, holding, rulesOf}
-use Rattle.tagger.proofs.Run.{rule-next, rule-inside}
+use Rattle.endings.proofs.Ending.{rule-inside}
+use Rattle.tagger.proofs.Run.{rule-next}
 use Rattle.tagger.proofs.apply_rules.Statement.{statement}
 use Rattle.tagger.proofs.apply_rules.Tie as tie
 use Rattle.tagger.proofs.apply_rules.Reads as reads

@@ -4,13 +4,14 @@ use Prim.Native.Nat.{ℕ}
 use mathlib.Core.Path.{subst}
 use mathlib.Core.List.{List}
 use lib.ListN.{length}
+use Rattle.limits.specs.Limits.{no-end}
 use Rattle.answers.specs.Outcome.{Outcome}
 use Rattle.sentences.specs.Run.{Ran}
 use Rattle.sentences.proofs.Run.{ran-refused}
 use Rattle.books.specs.Arrays.{holding}
 use Rattle.books.proofs.Arrays.{fresh-shaped}
 use Rattle.tagger.specs.Run.{bookRun}
-use Rattle.tagger.proofs.Run.{book-refused, book-runs, applicable}
+use Rattle.tagger.proofs.Run.{book-refused, book-runs-whole, applicable}
 use Rattle.tagger.proofs.run_book.Statement.{statement}
 use Rattle.tagger.proofs.run_book.Tie as tie
 use Rattle.tagger.proofs.run_book.Reads as reads
@@ -40,8 +41,8 @@ returns c =
     let st = c .before .before .before .before .before .before .before .before .before .before in
     let r = c .before .before .before .read-into in
     let a = holding (r .last .1 .0) (r .last .1 .1 .0) (r .last .1 .1 .1 .0) in
-    ran-refused (bookRun (st .args .book .now) (st .args .sentence .now) (length (st .args .out .now))) (st .args .sentence .now) (st .args .out .now) (c .before .got .given .0 .0)
-    (book-refused (st .args .book .now) a (r .result) (r .ensures) (st .args .sentence .now) (length (st .args .out .now)) _ (c .before .got .given .1))
+    ran-refused (bookRun (st .args .book .now) no-end (st .args .sentence .now) (length (st .args .out .now))) (st .args .sentence .now) (st .args .out .now) (c .before .got .given .0 .0)
+    (book-refused (st .args .book .now) a (r .result) (r .ensures) no-end (st .args .sentence .now) (length (st .args .out .now)) _ (c .before .got .given .1))
 
 same-length : tie.Need-same-length
 same-length c = search needs
@@ -54,7 +55,7 @@ returns-2 c =
     let book = c .before .before .before .before .before .before .before .before .got2 .given in
     let u = c .before .before .run-rules in
     subst (λ (o : Outcome (List ℕ)). Ran o (st .args .sentence .now) (st .args .out .now) (u .last .1 .0) (u .result))
-    (book-runs (st .args .book .now) a (r .result) (r .ensures) (book .0 .0) (book .0 .1 .0) (book .1) (st .args .sentence .now) (length (st .args .out .now)))
+    (book-runs-whole (st .args .book .now) a (r .result) (r .ensures) (book .0 .0) (book .0 .1 .0) (book .1) (st .args .sentence .now) (length (st .args .out .now)))
     (u .ensures)
 
 pub run-book-spec : {M : Type 1} → statement M

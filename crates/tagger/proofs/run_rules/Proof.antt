@@ -7,8 +7,8 @@ use lib.ListN.{length}
 use Rattle.answers.specs.Outcome.{Outcome}
 use Rattle.sentences.specs.Run.{run}
 use Rattle.sentences.proofs.Run.{run-accepts, ran-refused, ran-changed}
-use Rattle.cascades.specs.Rewrite.{behavior}
-use Rattle.books.specs.Arrays.{holding, cascadeOf}
+use Rattle.cascades.specs.Rewrite.{applyAll}
+use Rattle.books.specs.Arrays.{holding, rulesOf}
 use Rattle.tagger.proofs.Run.{run-refused, run-admitted}
 use Rattle.tagger.proofs.run_rules.Statement.{statement}
 use Rattle.tagger.proofs.run_rules.Tie as tie
@@ -19,7 +19,7 @@ use Rattle.tagger.proofs.write_rules.Reads as write-rules-reads
 
 -- what the rules make of the sentence, and the outcome of the run
 abbrev made : tie.Start → List ℕ
-made st = behavior (cascadeOf (st .args .k) (holding (st .args .rows .now) (st .args .lengths .now) (st .args .heads .now)) (st .args .m)) (st .args .sentence .now)
+made st = applyAll (rulesOf (holding (st .args .rows .now) (st .args .lengths .now) (st .args .heads .now)) (st .args .m)) (st .args .sentence .now)
 
 abbrev outcome : tie.Start → Outcome (List ℕ)
 outcome st = run (st .args .k) (st .args .sentence .now) (length (st .args .out .now)) (made st)

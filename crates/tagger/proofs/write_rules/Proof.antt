@@ -1,5 +1,6 @@
 -- `tagger::write_rules` meets its contract.
 use borrow.Author.Needs.{needs}
+use Rattle.cascades.specs.Rewrite.{applyAll}
 use Rattle.books.specs.Arrays.{holding, rulesOf}
 use Rattle.tagger.proofs.Run.{front-long, made-long, writes}
 use Rattle.tagger.proofs.write_rules.Statement.{statement}
@@ -52,7 +53,7 @@ returns c =
     let x = c .before .before .before .before .apply-rules in
     let n = c .count-changes in
     let rules = rulesOf (holding (a .rows .now) (a .lengths .now) (a .heads .now)) (a .m) in
-    writes (a .sentence .now) (a .out .now) (o .last .1 .0) (x .last .0) (o .ensures) (x .kept .0) rules (n .result) (x .ensures) (n .ensures)
+    writes (a .sentence .now) (a .out .now) (o .last .1 .0) (x .last .0) (o .ensures) (x .kept .0) (applyAll rules) (n .result) (x .ensures) (n .ensures)
 
 pub write-rules-spec : {M : Type 1} → statement M
 write-rules-spec =

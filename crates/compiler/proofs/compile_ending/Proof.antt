@@ -1,4 +1,4 @@
--- `compiler::compile` meets its contract.
+-- `compiler::compile_ending` meets its contract.
 use native.Mathlib.Omega.{arith}
 use borrow.Author.Needs.{needs}
 use mathlib.Core.Path.{refl}
@@ -10,26 +10,26 @@ use Rattle.books.specs.Arrays.{holding}
 use Rattle.books.proofs.Arrays.{fresh-shaped}
 use Rattle.answers.specs.declared.CompileAnswer.{CompileAnswer}
 use Rattle.compiler.proofs.Reading.{refused-ended, too-low, too-high, book-refused, read-readable, book-ended, all-three}
-use Rattle.compiler.proofs.compile.Statement.{statement}
-use Rattle.compiler.proofs.compile.Tie as tie
-use Rattle.compiler.proofs.compile.Reads as reads
-use Rattle.compiler.proofs.compile.Lts as lts
+use Rattle.compiler.proofs.compile_ending.Statement.{statement}
+use Rattle.compiler.proofs.compile_ending.Tie as tie
+use Rattle.compiler.proofs.compile_ending.Reads as reads
+use Rattle.compiler.proofs.compile_ending.Lts as lts
 use Rattle.books.proofs.read_into.Reads as read-into-reads
-use Rattle.compiler.proofs.compile_read.Reads as compile-read-reads
+use Rattle.compiler.proofs.compile_rules.Reads as compile-rules-reads
 
 returns : tie.Need-returns
 returns c =
     let a = c .before .before .before .before .args in
     let n = length (a .work .now) in
-    all-three (a .book .now) (a .ceiling) n
-    (refused-ended (tested (a .book .now) (a .ceiling) n) (a .ceiling) 8 nothing (too-low (a .book .now) (a .ceiling) n (omega arith)) (CompileAnswer.Refused (Bare 8)) refl (a .work .now) (a .out .now))
+    all-three (a .book .now) (a .end) (a .ceiling) n
+    (refused-ended (tested (a .book .now) (a .end) (a .ceiling) n) (a .ceiling) 8 nothing (too-low (a .book .now) (a .end) (a .ceiling) n (omega arith)) (CompileAnswer.Refused (Bare 8)) refl (a .work .now) (a .out .now))
 
 returns-2 : tie.Need-returns-2
 returns-2 c =
     let a = c .before .before .before .before .before .args in
     let n = length (a .work .now) in
-    all-three (a .book .now) (a .ceiling) n
-    (refused-ended (tested (a .book .now) (a .ceiling) n) (a .ceiling) 8 nothing (too-high (a .book .now) (a .ceiling) n (omega arith) (omega arith)) (CompileAnswer.Refused (Bare 8)) refl (a .work .now) (a .out .now))
+    all-three (a .book .now) (a .end) (a .ceiling) n
+    (refused-ended (tested (a .book .now) (a .end) (a .ceiling) n) (a .ceiling) 8 nothing (too-high (a .book .now) (a .end) (a .ceiling) n (omega arith) (omega arith)) (CompileAnswer.Refused (Bare 8)) refl (a .work .now) (a .out .now))
 
 read-into-requires : tie.Need-read-into-requires
 read-into-requires c κs = fresh-shaped
@@ -40,21 +40,21 @@ enum-known-got c = search needs
 enum-known-got-2 : tie.Need-enum-known-got-2
 enum-known-got-2 c = search needs
 
-compile-read-requires : tie.Need-compile-read-requires
-compile-read-requires c κs =
+compile-rules-requires : tie.Need-compile-rules-requires
+compile-rules-requires c κs =
     let a = c .before .before .before .before .before .before .before .before .before .before .before .before .before .before .before .before .before .args in
     let r = c .before .before .before .before .before .before .before .before .read-into in
     let held = holding (r .last .1 .0) (r .last .1 .1 .0) (r .last .1 .1 .1 .0) in
     let book = c .before .before .before .before .before .before .got2 .given in
-    read-readable (a .book .now) (a .ceiling) (length (a .work .now)) (omega arith) (omega arith) held (r .result) (r .ensures) (book .0 .0) (book .0 .1 .0) (book .1)
+    read-readable (a .book .now) (a .end) (a .ceiling) (length (a .work .now)) (omega arith) (omega arith) held (r .result) (r .ensures) (book .0 .0) (book .0 .1 .0) (book .1)
 
 returns-3 : tie.Need-returns-3
 returns-3 c =
     let a = c .before .before .before .before .before .before .before .before .before .before .before .before .args in
     let r = c .before .before .before .read-into in
     let held = holding (r .last .1 .0) (r .last .1 .1 .0) (r .last .1 .1 .1 .0) in
-    all-three (a .book .now) (a .ceiling) (length (a .work .now))
-    (book-refused (a .book .now) (a .ceiling) (length (a .work .now)) (omega arith) (omega arith) held (r .result) (r .ensures) _ (c .before .got .given .1) (CompileAnswer.Refused (c .before .got .given .0 .0)) refl (a .work .now) (a .out .now))
+    all-three (a .book .now) (a .end) (a .ceiling) (length (a .work .now))
+    (book-refused (a .book .now) (a .end) (a .ceiling) (length (a .work .now)) (omega arith) (omega arith) held (r .result) (r .ensures) _ (c .before .got .given .1) (CompileAnswer.Refused (c .before .got .given .0 .0)) refl (a .work .now) (a .out .now))
 
 same-length : tie.Need-same-length
 same-length c = search needs
@@ -68,11 +68,11 @@ returns-4 c =
     let r = c .before .before .before .before .before .before .before .before .before .before .before .before .before .read-into in
     let held = holding (r .last .1 .0) (r .last .1 .1 .0) (r .last .1 .1 .1 .0) in
     let book = c .before .before .before .before .before .before .before .before .before .before .before .got2 .given in
-    all-three (a .book .now) (a .ceiling) (length (a .work .now))
-    (book-ended (a .book .now) (a .ceiling) (length (a .work .now)) (omega (arith, c .before .before .before .before .before .before .before .before .before .before .before .before .before .before .before .before .before .before .if1 .left)) (omega (arith, c .before .before .before .before .before .before .before .before .before .before .before .before .before .before .before .before .before .if2 .left)) held (r .result) (r .ensures) (book .0 .0) (book .0 .1 .0) (book .1) _ _ _ _ _ refl (c .before .before .before .before .compile-read .ensures))
+    all-three (a .book .now) (a .end) (a .ceiling) (length (a .work .now))
+    (book-ended (a .book .now) (a .end) (a .ceiling) (length (a .work .now)) (omega (arith, c .before .before .before .before .before .before .before .before .before .before .before .before .before .before .before .before .before .before .if1 .left)) (omega (arith, c .before .before .before .before .before .before .before .before .before .before .before .before .before .before .before .before .before .if2 .left)) held (r .result) (r .ensures) (book .0 .0) (book .0 .1 .0) (book .1) _ _ _ _ _ refl (c .before .before .before .before .compile-rules .ensures))
 
-pub compile-spec : {M : Type 1} → statement M
-compile-spec =
+pub compile-ending-spec : {M : Type 1} → statement M
+compile-ending-spec =
     tie.close
     (tie.spec
     returns
@@ -80,7 +80,7 @@ compile-spec =
     read-into-requires
     enum-known-got
     enum-known-got-2
-    compile-read-requires
+    compile-rules-requires
     returns-3
     same-length
     same-length-2

@@ -1,0 +1,51 @@
+-- Books with the end tag of a call.
+use Prim.Native.Nat.{ℕ, _≤_}
+use native.Mathlib.Omega.{arith}
+use mathlib.Core.Path.{_≡_, refl, sym, ap, _∙_, subst}
+use mathlib.Core.Bool.{Bool, true, false, not, _&&_, _||_}
+use mathlib.Core.List.{List, [], _∷_}
+use borrow.Author.Tests.{eqb-true, eq-eqb, leb-false, le-leb}
+use lib.Dec.{eqb, leb}
+use lib.ListN.{getD}
+use Rattle.limits.specs.Limits.{longest-pattern, no-end, most-tags}
+use Rattle.answers.specs.Outcome.{Outcome, result, refused, nothing, andThen, provided}
+use Rattle.answers.proofs.Outcome.{passed, went}
+use Rattle.cascades.specs.Rule.{Rule, Cascade, ending, ValidRules}
+use Rattle.cascades.specs.Ending.{before, misused, someMisused, badEnd}
+use Rattle.cascades.specs.Spares.{Spares, Spare}
+use Rattle.cascades.proofs.Ending.{no-or, spares-used, spare-outside}
+use Rattle.books.specs.Book.{Valid, encode}
+use Rattle.books.specs.Read.{read}
+use Rattle.books.specs.Ending.{fitted, readEnding, ValidEnding}
+use Rattle.books.proofs.Encode.{reads-exactly}
+
+spare-used : (e : ℕ) (rs : List Rule) → someMisused e rs ≡ false → Spare e rs
+spare-used e [] h = tt
+spare-used e (r ∷ rs) h = let a = no-or (misused e r) (someMisused e rs) h in (spares-used e r (a .0), spare-used e rs (a .1))
+
+-- the rules of a valid book leave its end tag where it is
+pub valid-spare : (c : Cascade) → ValidEnding c → Spare (c .end) (c .rules)
+valid-spare c v = by (eqb (c .end) no-end) refl (v .end-fits)
+  where
+    by : (t : Bool) → eqb (c .end) no-end ≡ t → (not t && (leb (c .tags) (c .end) || someMisused (c .end) (c .rules))) ≡ false → Spare (c .end) (c .rules)
+    by true f h =
+        spare-outside longest-pattern (c .tags) (c .end) (omega (arith, eqb-true (c .end) no-end f, v .book-valid .few-tags)) (c .rules) (v .book-valid .rules-valid)
+    by false f h = spare-used (c .end) (c .rules) (no-or (leb (c .tags) (c .end)) (someMisused (c .end) (c .rules)) h .1)
+
+-- the reader takes the encodings of valid cascades with the end tag, and nothing else
+pub reads-ending : (book : List ℕ) (e : ℕ) (c : Cascade) → readEnding book e ≡ result c → ValidEnding c × (c .end ≡ e) × (book ≡ encode c)
+reads-ending book e c h =
+    let w = went (read book) (fitted e) c h in
+    let d = w .first in
+    let p = passed 14 (not (badEnd (ending e d))) (result (ending e d)) c (w .then) in
+    let same : ending e d ≡ c = cc (p .1) in
+    let r = reads-exactly book d .0 (w .read) in
+    let valid : Valid (ending no-end d) = subst Valid (ap (λ (x : ℕ). ending x d) (r .0 .no-end-tag)) (r .0) in (
+      subst ValidEnding same (record { book-valid = valid; end-fits = not-true-false (badEnd (ending e d)) (p .0) }),
+      ap (λ (x : Cascade). x .end) (sym same),
+      r .1 ∙ ap encode same,
+    )
+  where
+    not-true-false : (b : Bool) → not b ≡ true → b ≡ false
+    not-true-false true f = let z : _≡_ {A = ℕ} 0 1 = cc in absurd (omega arith)
+    not-true-false false f = refl

@@ -1,0 +1,23 @@
+-- A book with the end tag of a call (document 02, W1).
+use Prim.Native.Nat.{ℕ}
+use mathlib.Core.Path.{_≡_}
+use mathlib.Core.Bool.{false, not}
+use mathlib.Core.List.{List}
+use Rattle.limits.specs.Limits.{no-end}
+use Rattle.answers.specs.Outcome.{Outcome, result, andThen, provided}
+use Rattle.cascades.specs.Rule.{Cascade, ending}
+use Rattle.cascades.specs.Ending.{badEnd}
+use Rattle.books.specs.Book.{Valid}
+use Rattle.books.specs.Read.{read}
+
+-- 14 "tested once the whole book is read", "naming nothing"
+abbrev pub fitted : ℕ → Cascade → Outcome Cascade
+fitted e c = provided 14 (not (badEnd (ending e c))) (result (ending e c))
+
+abbrev pub readEnding : List ℕ → ℕ → Outcome Cascade
+readEnding book e = andThen (read book) (fitted e)
+
+-- "A book that gives 14 with the call's end tag isn't one of demand 3's valid books"
+pub record ValidEnding (c : Cascade) : Type 0 where
+  pub book-valid : Valid (ending no-end c)
+  pub end-fits : badEnd c ≡ false

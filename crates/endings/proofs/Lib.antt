@@ -1,0 +1,2 @@
+-- Laws of end tags.
+pub mod Ending

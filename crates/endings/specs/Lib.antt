@@ -1,0 +1,2 @@
+-- End tags.
+pub mod Usable

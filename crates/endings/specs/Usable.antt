@@ -1,0 +1,10 @@
+-- Rules of the reader's arrays whose places lie in their patterns.
+use Prim.Native.Nat.{ℕ, _≤_, _<_}
+use lib.ListN.{getD}
+use Rattle.limits.specs.Limits.{most-rules}
+use Rattle.books.specs.Arrays.{Arrays, Shaped, placeAt}
+
+pub record Usable (m : ℕ) (a : Arrays) : Type 0 where
+  pub shaped : Shaped a
+  pub few : m ≤ most-rules
+  pub inside : (i : ℕ) → i < m → placeAt a i < getD (a .lengths) i 0

@@ -1,0 +1,28 @@
+-- Where a pattern begins in a sentence.
+use Prim.Native.Nat.{ℕ, _+_, _≤_, _<_}
+use mathlib.Core.Path.{_≡_}
+use mathlib.Core.Bool.{true, false}
+use mathlib.Core.List.{List}
+use lib.ListN.{length, drop, getD}
+use Rattle.words.specs.Word.{prefix}
+
+-- u, which is not empty, has room at every place from a up to b
+pub record Places (u s : List ℕ) (a b : ℕ) : Type 0 where
+  pub some : 0 < length u
+  pub order : a ≤ b
+  pub room : b + length u ≤ length s + 1
+
+-- u begins at no place from a up to b
+abbrev pub Nowhere : List ℕ → List ℕ → ℕ → ℕ → Type 0
+Nowhere u s a b = (i : ℕ) → a ≤ i → i < b → prefix u (drop i s) ≡ false
+
+-- at no place from a up to b stands the tag x with the tag y w places after it
+abbrev pub Apart : ℕ → ℕ → ℕ → List ℕ → ℕ → ℕ → Type 0
+Apart x w y s a b = (i : ℕ) → a ≤ i → i < b → getD s i 0 ≡ x → getD s (i + w) 0 ≡ y → ⊥
+
+-- r is the first place from a up to b at which u begins, or b
+pub record Leftmost (u s : List ℕ) (a b r : ℕ) : Type 0 where
+  pub after : a ≤ r
+  pub inside : r ≤ b
+  pub passed : Nowhere u s a r
+  pub here : r < b → prefix u (drop r s) ≡ true

@@ -1,0 +1,2 @@
+-- The leftmost occurrence.
+pub mod Leftmost

@@ -1,0 +1,223 @@
+-- The transducer of one rule and an end tag.
+use Prim.Native.Nat.{ℕ, zero, suc, _+_, _-_, _≤_, _<_}
+use native.Mathlib.Omega.{arith}
+use native.Mathlib.Decide.{decLt}
+use mathlib.Core.Path.{_≡_, refl, sym, ap, _∙_}
+use mathlib.Core.Bool.{Bool, true, false, _||_, false≢true}
+use mathlib.Core.List.{List, [], _∷_, _++_, append-assoc, append-nil}
+use borrow.Author.Tests.{eq-eqb, ne-eqb}
+use lib.Dec.{eqb}
+use lib.ListN.{length, take, drop, getD, length-append}
+use lib.Seq.{take-suc, getD-take, length-take-le}
+use Rattle.words.specs.Word.{Below}
+use Rattle.words.specs.Front.{first}
+use Rattle.words.specs.Overlap.{overlap, skipped}
+use Rattle.words.proofs.Word.{below-take, below-drop}
+use Rattle.words.proofs.Overlap.{overlap-split, overlap-le}
+use Rattle.words.proofs.Pieces.{Without}
+use Rattle.cascades.specs.Rule.{Rule, ValidRule}
+use Rattle.cascades.specs.Ending.{before}
+use Rattle.cascades.proofs.Ending.{no-or, before-at}
+use Rattle.transducers.specs.Transducer.{Shape, puts}
+use Rattle.transducers.specs.Run.{walk}
+use Rattle.transducers.specs.Canonical.{Inside, Minimal, Sound}
+use Rattle.transducers.specs.Ended.{ended}
+use Rattle.transducers.proofs.Ended.{sound-ended}
+use Rattle.minimal.specs.Matcher.{held}
+use Rattle.minimal.specs.OneRule.{borders, oneRule}
+use Rattle.minimal.proofs.OneRule.{overlap-step, borders-move, sound-rule, walk-prefix, early-rule, apart-rule}
+use Rattle.minimal.proofs.Matcher.{held-in, held-all, moves-after, moves-match, moves-on}
+
+-- equal words end with equal tags
+last-same : (v w : List ℕ) (a b : ℕ) → v ++ (a ∷ []) ≡ w ++ (b ∷ []) → a ≡ b
+last-same [] [] a b e = cc
+last-same [] (y ∷ w) a b e = absurd (omega (arith, ap length e, length-append w (b ∷ [])))
+last-same (x ∷ v) [] a b e = absurd (omega (arith, ap length e, length-append v (a ∷ [])))
+last-same (x ∷ v) (y ∷ w) a b e = last-same v w a b (ap (drop 1) e)
+
+-- ---- a word that is one piece
+
+-- with the end tag at its last place alone, where the start holds nothing
+puts-piece : (e : ℕ) (S : Shape) → S .final 0 ≡ [] → (w : List ℕ) → before e w ≡ false → (q : ℕ) → puts (ended e S) q w ≡ puts S q w
+puts-piece e S z [] h q = refl
+puts-piece e S z (a ∷ []) h q = by (eqb a e)
+  where
+    by : (t : Bool) → elim t as (λ x. List ℕ) [ true ↦ S .output q a ++ S .final (S .next q a) | false ↦ S .output q a ] ++ S .final (elim t as (λ x. ℕ) [ true ↦ 0 | false ↦ S .next q a ])
+        ≡ S .output q a ++ S .final (S .next q a)
+    by true = ap (λ (x : List ℕ). (S .output q a ++ S .final (S .next q a)) ++ x) z ∙ append-nil (S .output q a ++ S .final (S .next q a))
+    by false = refl
+puts-piece e S z (a ∷ b ∷ w) h q = by (eqb a e) h (λ g. puts-piece e S z (b ∷ w) g (S .next q a))
+  where
+    by : (t : Bool) → (t || before e (b ∷ w)) ≡ false → (before e (b ∷ w) ≡ false → puts (ended e S) (S .next q a) (b ∷ w) ≡ puts S (S .next q a) (b ∷ w))
+        → elim t as (λ x. List ℕ) [ true ↦ S .output q a ++ S .final (S .next q a) | false ↦ S .output q a ] ++ puts (ended e S) (elim t as (λ x. ℕ) [ true ↦ 0 | false ↦ S .next q a ]) (b ∷ w)
+        ≡ S .output q a ++ puts S (S .next q a) (b ∷ w)
+    by true g rest = absurd (false≢true (sym g))
+    by false g rest = ap (λ (x : List ℕ). S .output q a ++ x) (rest g)
+
+walk-piece : (e : ℕ) (S : Shape) (w : List ℕ) → Without e w → (q : ℕ) → walk (ended e S) q w ≡ walk S q w
+walk-piece e S [] h q = refl
+walk-piece e S (a ∷ w) h q =
+    let next : ended e S .next q a ≡ S .next q a = cc (ne-eqb a e (h .0)) in
+    ap (λ (s : ℕ). walk (ended e S) s w) next ∙ walk-piece e S w (h .1) (S .next q a)
+
+before-drop : (e i : ℕ) (u : List ℕ) → before e u ≡ false → before e (drop i u) ≡ false
+before-drop e zero u h = h
+before-drop e (suc i) [] h = refl
+before-drop e (suc i) (a ∷ []) h = before-drop e i [] refl
+before-drop e (suc i) (a ∷ b ∷ w) h = before-drop e i (b ∷ w) (no-or (eqb a e) (before e (b ∷ w)) h .1)
+
+without-at : (e : ℕ) (w : List ℕ) → ((i : ℕ) → i < length w → getD w i 0 ≡ e → ⊥) → Without e w
+without-at e [] h = tt
+without-at e (a ∷ w) h = (h 0 (omega arith), without-at e w (λ i l. h (suc i) (omega arith)))
+
+-- ---- after an end tag nothing is held
+
+-- either the pattern is complete or nothing of it is matched
+module _ (e : ℕ) (r : Rule) (free : before e (r .pattern) ≡ false) where
+  abbrev u : List ℕ
+  u = r .pattern
+
+  abbrev reached : ℕ → ℕ
+  reached j = overlap u (take j u ++ (e ∷ []))
+
+  -- a part of the pattern that ends with the end tag is no part: it is nothing or all
+  none-matched : (j i : ℕ) → reached j ≡ i → i < length u → i ≡ 0
+  none-matched j zero is l = refl
+  none-matched j (suc i) is l =
+      let t = take j u ++ (e ∷ []) in
+      let split : t ≡ skipped u t ++ take (suc i) u = overlap-split u t ∙ ap (λ (m : ℕ). skipped u t ++ take m u) is in
+      let snoc : t ≡ (skipped u t ++ take i u) ++ (getD u i 0 ∷ []) =
+      split ∙ ap (λ (l : List ℕ). skipped u t ++ l) (take-suc u i 0 (omega arith)) ∙ sym (append-assoc (skipped u t) (take i u) (getD u i 0 ∷ []))
+      in
+      absurd (before-at e u free i (omega arith) (sym (last-same (take j u) (skipped u t ++ take i u) e (getD u i 0) snoc)))
+
+  pub quiet-rule : (j : ℕ) → j ≤ length u → oneRule r .final (oneRule r .next j e) ≡ []
+  quiet-rule j inside = by (decLt j (length u)) (decLt (reached j) (length u))
+    where
+      by : Dec (j < length u) → Dec (reached j < length u) → oneRule r .final (oneRule r .next j e) ≡ []
+      by (no a) b =
+          ap (λ (q : ℕ). held u (r .place) q) (moves-after u (r .place) (r .tag) (borders u) j e (omega arith)) ∙ held-all u (r .place) (r .tag) j (omega arith)
+      by (yes a) (no b) =
+          let all : reached j ≡ length u = omega (arith, overlap-le u (take j u ++ (e ∷ [])) .1) in
+          ap (λ (q : ℕ). held u (r .place) q) (moves-match u (r .place) (r .tag) (borders u) j e a all) ∙ held-all u (r .place) (r .tag) (length u) refl
+      by (yes a) (yes b) =
+          ap (λ (q : ℕ). held u (r .place) q) (moves-on u (r .place) (r .tag) (borders u) j e a b ∙ none-matched j (reached j) refl b)
+          ∙ held-in u (r .place) (r .tag) 0 (omega arith) ∙ nothing (r .place)
+        where
+          nothing : (p : ℕ) → _≡_ {A = List ℕ} (drop {A = ℕ} p []) []
+          nothing zero = refl
+          nothing (suc p) = refl
+
+-- ---- how many states one rule needs
+
+-- the first m states of a transducer
+abbrev pub upto : ℕ → Shape → Shape
+upto m S = record { count = m; next = S .next; output = S .output; final = S .final }
+
+pub puts-upto : (m : ℕ) (S : Shape) (w : List ℕ) (q : ℕ) → puts (upto m S) q w ≡ puts S q w
+puts-upto m S [] q = refl
+puts-upto m S (a ∷ w) q = ap (λ (x : List ℕ). S .output q a ++ x) (puts-upto m S w (S .next q a))
+
+walk-upto : (m : ℕ) (S : Shape) (w : List ℕ) (q : ℕ) → walk (upto m S) q w ≡ walk S q w
+walk-upto m S [] q = refl
+walk-upto m S (a ∷ w) q = walk-upto m S w (S .next q a)
+
+-- m states are enough if none of them leads out, and all are needed if the end tag stands in none of the fronts that lead to them
+module _ (l k e : ℕ) (r : Rule) (ok : ValidRule l k r) (free : before e (r .pattern) ≡ false)
+    (m : ℕ) (some : 0 < m) (few : m ≤ suc (length (r .pattern))) (inside : Inside k (upto m (ended e (oneRule r))))
+    (fronts : (j : ℕ) → j < m → Without e (take j (r .pattern))) where
+  abbrev pub states : Shape
+  states = upto m (ended e (oneRule r))
+
+  whole : Sound k (ended e (oneRule r))
+  whole = sound-ended e (oneRule r) k (sound-rule l k r ok)
+
+  pub sound-states : Sound k states
+  sound-states =
+      record {
+        some = some;
+        empty = whole .empty;
+        next-below = inside;
+        output-below = λ q a h g. whole .output-below q a (omega arith) g;
+        final-below = λ q h. whole .final-below q (omega arith);
+        balanced = λ q a h g. whole .balanced q a (omega arith) g;
+      }
+
+  on-rest : (q i : ℕ) → puts states q (drop i (r .pattern)) ≡ puts (oneRule r) q (drop i (r .pattern))
+  on-rest q i =
+      puts-upto m (ended e (oneRule r)) (drop i (r .pattern)) q
+      ∙ puts-piece e (oneRule r) (whole .empty) (drop i (r .pattern)) (before-drop e i (r .pattern) free) q
+
+  rest-below : (i : ℕ) → Below k (drop i (r .pattern))
+  rest-below i = below-drop k i (r .pattern) (ok .pattern-below)
+
+  pub minimal-states : Minimal k states
+  minimal-states =
+      record {
+        next-below = inside;
+        reached = λ j h.
+            record {
+              word = take j (r .pattern);
+              below = below-take k j (r .pattern) (ok .pattern-below);
+              leads = walk-upto m (ended e (oneRule r)) (take j (r .pattern)) 0 ∙ walk-piece e (oneRule r) (take j (r .pattern)) (fronts j h) 0 ∙ walk-prefix l k r ok j (omega arith);
+            };
+        early = λ j h c all. early-rule l k r ok j (omega arith) c (λ i. ap first (sym (on-rest j i)) ∙ all (drop i (r .pattern)) (rest-below i));
+        apart = λ i j hi hj same.
+            apart-rule l k r ok i j (omega arith) (omega arith) (λ x. sym (on-rest i x) ∙ same (drop x (r .pattern)) (rest-below x) ∙ on-rest j x);
+      }
+
+-- the two numbers: one more than the pattern has tags, and as many where it ends with the end tag
+module _ (l k e : ℕ) (r : Rule) (ok : ValidRule l k r) (free : before e (r .pattern) ≡ false) where
+  abbrev n : ℕ
+  n = length (r .pattern)
+
+  abbrev last : ℕ
+  last = getD (r .pattern) (n - 1) 0
+
+  front-free : (j : ℕ) → j ≤ n → (j ≡ n → last ≡ e → ⊥) → Without e (take j (r .pattern))
+  front-free j h other =
+      without-at e (take j (r .pattern)) (λ i b f.
+      let long : length (take j (r .pattern)) ≡ j = length-take-le j (r .pattern) h in
+      let is : getD (r .pattern) i 0 ≡ e = sym (getD-take j (r .pattern) i 0 (omega arith)) ∙ f in
+      at i (omega arith) is (decLt (i + 1) n))
+    where
+      at : (i : ℕ) → i < j → getD (r .pattern) i 0 ≡ e → Dec (i + 1 < n) → ⊥
+      at i b f (yes g) = before-at e (r .pattern) free i g f
+      at i b f (no g) = let z : i ≡ n - 1 = omega arith in other (omega arith) (ap (λ (x : ℕ). getD (r .pattern) x 0) (sym z) ∙ f)
+
+  -- all are reached
+  module _ (other : last ≡ e → ⊥) where
+    pub fronts-all : (j : ℕ) → j < suc n → Without e (take j (r .pattern))
+    fronts-all j h = front-free j (omega arith) (λ z. other)
+
+    pub inside-all : Inside k (upto (suc n) (ended e (oneRule r)))
+    inside-all = sound-ended e (oneRule r) k (sound-rule l k r ok) .next-below
+
+  -- the one after a whole match is not: it begins afresh
+  module _ (same : last ≡ e) where
+    pub fronts-before : (j : ℕ) → j < n → Without e (take j (r .pattern))
+    fronts-before j h = front-free j (omega arith) (λ z. omega arith)
+
+    -- what completes the pattern is its last tag
+    completes : (q a : ℕ) → overlap (r .pattern) (take q (r .pattern) ++ (a ∷ [])) ≡ n → a ≡ e
+    completes q a is =
+        let u = r .pattern in
+        let t = take q u ++ (a ∷ []) in
+        let pos : 0 < n = omega (arith, ok .place-inside) in
+        let is-n : suc (n - 1) ≡ n = omega arith in
+        let split : t ≡ skipped u t ++ take n u = overlap-split u t ∙ ap (λ (i : ℕ). skipped u t ++ take i u) is in
+        let snoc : t ≡ (skipped u t ++ take (n - 1) u) ++ (last ∷ []) =
+        split ∙ ap (λ (i : ℕ). skipped u t ++ take i u) (sym is-n) ∙ ap (λ (y : List ℕ). skipped u t ++ y) (take-suc u (n - 1) 0 (omega arith))
+        ∙ sym (append-assoc (skipped u t) (take (n - 1) u) (last ∷ []))
+        in
+        last-same (take q u) (skipped u t ++ take (n - 1) u) a last snoc ∙ same
+
+    pub inside-before : Inside k (upto n (ended e (oneRule r)))
+    inside-before q a h g = by (eqb a e) refl
+      where
+        by : (t : Bool) → eqb a e ≡ t → elim t as (λ x. ℕ) [ true ↦ 0 | false ↦ oneRule r .next q a ] < n
+        by true f = omega arith
+        by false f =
+            let le = overlap-step (r .pattern) q a h .1 in
+            let ne : overlap (r .pattern) (take q (r .pattern) ++ (a ∷ [])) ≡ n → ⊥ = λ z. false≢true (sym f ∙ eq-eqb a e (completes q a z)) in
+            omega (arith, borders-move (r .pattern) q a h, le, ne)
