@@ -230,7 +230,8 @@ static void spare_end(struct made_rule *rule, unsigned end, size_t tags)
         rule->new_tag = (uint8_t)random_below(tags);
 }
 
-/* A book of at least three tags and an end tag that it can be used with, or hardly any: 14, and 255. */
+/* An end tag that the book, of at least three tags, can be used with; now and then 255, or one that may give 14. The rules are changed so
+   that it fits. */
 static unsigned some_end(struct made_book *book)
 {
     unsigned end = one_in(2) ? book->tags - 1u : (unsigned)random_below(book->tags);

@@ -1,18 +1,17 @@
 -- Books with the end tag of a call.
-use Prim.Native.Nat.{ℕ, _≤_}
+use Prim.Native.Nat.{ℕ}
 use native.Mathlib.Omega.{arith}
 use mathlib.Core.Path.{_≡_, refl, sym, ap, _∙_, subst}
 use mathlib.Core.Bool.{Bool, true, false, not, _&&_, _||_}
 use mathlib.Core.List.{List, [], _∷_}
-use borrow.Author.Tests.{eqb-true, eq-eqb, leb-false, le-leb}
+use borrow.Author.Tests.{eqb-true}
 use lib.Dec.{eqb, leb}
-use lib.ListN.{getD}
-use Rattle.limits.specs.Limits.{longest-pattern, no-end, most-tags}
-use Rattle.answers.specs.Outcome.{Outcome, result, refused, nothing, andThen, provided}
+use Rattle.limits.specs.Limits.{longest-pattern, no-end}
+use Rattle.answers.specs.Outcome.{result}
 use Rattle.answers.proofs.Outcome.{passed, went}
-use Rattle.cascades.specs.Rule.{Rule, Cascade, ending, ValidRules}
-use Rattle.cascades.specs.Ending.{before, misused, someMisused, badEnd}
-use Rattle.cascades.specs.Spares.{Spares, Spare}
+use Rattle.cascades.specs.Rule.{Rule, Cascade, ending}
+use Rattle.cascades.specs.Ending.{misused, someMisused, badEnd}
+use Rattle.cascades.specs.Spares.{Spare}
 use Rattle.cascades.proofs.Ending.{no-or, spares-used, spare-outside}
 use Rattle.books.specs.Book.{Valid, encode}
 use Rattle.books.specs.Read.{read}

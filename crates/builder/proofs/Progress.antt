@@ -4,17 +4,16 @@ use native.Mathlib.Omega.{arith}
 use native.Mathlib.Numerals.{add-one}
 use mathlib.Core.Path.{_≡_, refl, sym, ap, _∙_, subst}
 use mathlib.Core.List.{List, [], _∷_, _++_, reverse-cons, append-assoc, append-nil}
-use mathlib.Core.Bool.{false, _||_}
+use mathlib.Core.Bool.{false}
 use borrow.Author.Tests.{le-leb, lt-leb}
-use lib.Dec.{eqb}
-use lib.ListN.{length, getD}
+use lib.ListN.{length}
 use Rattle.limits.specs.Limits.{longest-pattern}
 use Rattle.answers.specs.Outcome.{Outcome, refused, rule, andThen}
 use Rattle.answers.specs.Slice.{fitting}
 use Rattle.cascades.specs.Rule.{Rule, ValidRule, ValidRules, Cascade, having, ending}
-use Rattle.cascades.specs.Ending.{before, misused}
+use Rattle.cascades.specs.Ending.{misused}
 use Rattle.cascades.specs.Spares.{Spares, Spare}
-use Rattle.cascades.proofs.Ending.{no-or, spares-used}
+use Rattle.cascades.proofs.Ending.{free-used, spares-used}
 use Rattle.cascades.specs.Rewrite.{behavior}
 use Rattle.books.specs.Arrays.{Arrays, ruleAt, rulesDown, rulesOf, cascadeOf}
 use Rattle.books.proofs.Held.{rules-long}
@@ -155,7 +154,7 @@ module _ (g : Grid) (W : List ℕ) (ceiling end m : ℕ) (a : Arrays) (ok : Comp
           stands = record { made = record { table = tableOf (cut end k a i); long = p .long; doing = t .doing; so = t .canonical }; holds = p .holds };
           deep = omega (arith, ok .depth);
           valid = v;
-          free = no-or (before end (r .pattern)) (eqb (getD (r .pattern) (r .place) 0) end || eqb (r .tag) end) used .0;
+          free = free-used end r used;
         }
 
     module _ (h : i < m) (Y : List ℕ) (count : ℕ) (added : Added g X Y n ceiling end (ruleAt a i) count) where

@@ -1,15 +1,15 @@
 -- Rules leave the end tag where it is, unless they change or make it.
 use Prim.Native.Nat.{ℕ, zero, suc, _+_, _≤_, _<_}
 use native.Mathlib.Omega.{arith}
-use mathlib.Core.Path.{_≡_, refl, subst, sym, ap, _∙_}
+use mathlib.Core.Path.{_≡_, refl, subst, sym, _∙_}
 use mathlib.Core.Bool.{Bool, true, false, _||_, false≢true}
 use mathlib.Core.List.{List, [], _∷_, _++_}
 use borrow.Author.Tests.{eq-eqb, ne-eqb}
 use lib.Dec.{eqb}
-use lib.ListN.{length, drop, getD, set}
+use lib.ListN.{length, drop, getD}
 use Rattle.words.specs.Word.{Below, prefix}
 use Rattle.words.proofs.Word.{prefix-split, below-at}
-use Rattle.words.proofs.Pieces.{without-below, piecewise-without, Marks, marks-same, marks-append, marks-set, Keeps, keeps-marks, keeps-then}
+use Rattle.words.proofs.Pieces.{without-below, piecewise-without, Marks, marks-same, marks-append, marks-set, Keeps, keeps-marks}
 use Rattle.cascades.specs.Rule.{Rule, replaced, ValidRule, ValidRules, Cascade}
 use Rattle.cascades.specs.Rewrite.{rewrite, apply, applyAll, behavior}
 use Rattle.cascades.specs.Ending.{before, misused}
@@ -28,10 +28,6 @@ marks-rewrite e u v m (a ∷ w) = by (prefix u (a ∷ w)) refl (marks-rewrite e 
 
 pub keeps-apply : (e : ℕ) (r : Rule) → Spares e r → Keeps e (apply r)
 keeps-apply e r s = keeps-marks e (apply r) (marks-rewrite e (r .pattern) (replaced r) (marks-set e (r .place) (r .tag) (r .pattern) (s .old) (s .new)))
-
-pub keeps-applyAll : (e : ℕ) (rs : List Rule) → Spare e rs → Keeps e (applyAll rs)
-keeps-applyAll e [] s = record { without = λ p h. h; ends = λ p h. h }
-keeps-applyAll e (r ∷ rs) s = keeps-then e (applyAll rs) (apply r) (keeps-applyAll e rs (s .1)) (keeps-apply e r (s .0))
 
 -- where the end tag is no tag the rules meet the whole sentence: document 01's cascades
 pub without-end : (c : Cascade) → c .tags ≤ c .end → (w : List ℕ) → Below (c .tags) w → behavior c w ≡ applyAll (c .rules) w
@@ -57,6 +53,10 @@ no-or false b e = (refl, e)
 -- a test that is false
 unequal : (a b : ℕ) → eqb a b ≡ false → a ≡ b → ⊥
 unequal a b e f = false≢true (sym e ∙ eq-eqb a b f)
+
+-- what 14 tells of a rule that it is not given for
+pub free-used : (e : ℕ) (r : Rule) → misused e r ≡ false → before e (r .pattern) ≡ false
+free-used e r h = no-or (before e (r .pattern)) (eqb (getD (r .pattern) (r .place) 0) e || eqb (r .tag) e) h .0
 
 pub spares-used : (e : ℕ) (r : Rule) → misused e r ≡ false → Spares e r
 spares-used e r h =

@@ -12,7 +12,7 @@ use Rattle.words.specs.Word.{prefix}
 use Rattle.words.proofs.Word.{prefix-split}
 use Rattle.cascades.specs.Rewrite.{rewrite}
 use Rattle.cascades.proofs.Rewrite.{From, first-other, search-next, search-none, search-found}
-use Rattle.leftmost.specs.Leftmost.{Nowhere, Apart, Leftmost}
+use Rattle.leftmost.specs.Leftmost.{Nowhere, Apart, Together, FirstPlace}
 
 -- ---- a tag and another w places after it
 
@@ -28,6 +28,16 @@ module _ (x w y : ℕ) (s : List ℕ) where
       by : Dec (i ≡ a + j) → getD s i 0 ≡ x → getD s (i + w) 0 ≡ y → ⊥
       by (yes e) = λ d c. n (omega (arith, g (subst (λ (m : ℕ). getD s m 0 ≡ x) e d), h (subst (λ (m : ℕ). getD s (m + w) 0 ≡ y) e c)))
       by (no e) = f i k (omega arith)
+
+  -- at this place, at one before it, and among more places
+  pub together-here : (a j : ℕ) → getD s (a + j) 0 ≡ x → getD s (a + j + w) 0 ≡ y → Together x w y s a (a + (j + 1))
+  together-here a j f g = record { place = a + j; after = omega arith; inside = omega arith; front = f; back = g }
+
+  pub together-all : (a j n : ℕ) → j ≤ n → Together x w y s a (a + j) → Together x w y s a (a + n)
+  together-all a j n h t = record { place = t .place; after = t .after; inside = omega (arith, t .inside); front = t .front; back = t .back }
+
+  pub together-more : (a j : ℕ) → Together x w y s a (a + j) → Together x w y s a (a + (j + 1))
+  together-more a j = together-all a j (j + 1) (omega arith)
 
 -- ---- the places at which u does not begin
 
@@ -90,7 +100,7 @@ module _ (u s : List ℕ) where
       subst (From u v s) (add-one b) (search-next u v s b g (omega arith) (f b (omega arith) (omega arith)))
 
   -- the rewriting, where u begins first at r below b, or nowhere below it
-  module _ (p t b r : ℕ) (hp : p < length u) (room : b + length u ≤ length s + 1) (at : Leftmost u s 0 b r) where
+  module _ (p t b r : ℕ) (hp : p < length u) (room : b + length u ≤ length s + 1) (at : FirstPlace u s 0 b r) where
     pub rewrite-there : r < b → set s (r + p) t ≡ rewrite u (set u p t) s
     rewrite-there h =
         let f : From u (set u p t) s r = from-nowhere (set u p t) r (omega arith) (at .passed) in

@@ -20,8 +20,16 @@ Nowhere u s a b = (i : ℕ) → a ≤ i → i < b → prefix u (drop i s) ≡ fa
 abbrev pub Apart : ℕ → ℕ → ℕ → List ℕ → ℕ → ℕ → Type 0
 Apart x w y s a b = (i : ℕ) → a ≤ i → i < b → getD s i 0 ≡ x → getD s (i + w) 0 ≡ y → ⊥
 
+-- at one it does
+pub record Together (x w y : ℕ) (s : List ℕ) (a b : ℕ) : Type 0 where
+  pub place : ℕ
+  pub after : a ≤ place
+  pub inside : place < b
+  pub front : getD s place 0 ≡ x
+  pub back : getD s (place + w) 0 ≡ y
+
 -- r is the first place from a up to b at which u begins, or b
-pub record Leftmost (u s : List ℕ) (a b r : ℕ) : Type 0 where
+pub record FirstPlace (u s : List ℕ) (a b r : ℕ) : Type 0 where
   pub after : a ≤ r
   pub inside : r ≤ b
   pub passed : Nowhere u s a r

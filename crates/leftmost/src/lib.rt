@@ -1,16 +1,17 @@
 // The leftmost occurrence of a pattern, found and rewritten.
 use words::lesser;
 ghost use mathlib.Core.Path.{_≡_};
-ghost use mathlib.Core.Bool.{false};
+ghost use mathlib.Core.Bool.{true, false};
 ghost use Prim.Native.Nat.{_+_, _≤_, _<_};
 ghost use lib.ListN.{length, set, drop};
 ghost use Rattle.words.specs.Word.{prefix};
 ghost use Rattle.cascades.specs.Rewrite.{rewrite};
-ghost use Rattle.leftmost.specs.Leftmost.{Apart, Places, Leftmost};
+ghost use Rattle.leftmost.specs.Leftmost.{Apart, Together, Places, FirstPlace};
 
-// How many places one look takes, and up to how many places are not worth it.
+// How many places one look takes.
 const BLOCK: usize = 16;
 
+// With fewer places than these, going place by place is quicker.
 const SHORT: usize = 64;
 
 // Whether the pattern u begins at the place i of s. It stops at the first difference.
@@ -30,7 +31,7 @@ fn begins(s: &[u8], i: usize, u: &[u8]) -> bool
 
 // 1 where two tags are the same, else 0.
 fn same(a: u8, b: u8) -> u8
-    ensures { λ r. ⌜ (r ≤ 1) × (a ≡ b → r ≡ 1) ⌝ }
+    ensures { λ r. ⌜ (r ≤ 1) × (a ≡ b → r ≡ 1) × (r ≡ 1 → a ≡ b) ⌝ }
 {
     if a == b {
         return 1;
@@ -42,7 +43,7 @@ fn same(a: u8, b: u8) -> u8
 // can be done at once.
 fn stands(s: &[u8], from: usize, w: usize, first: u8, last: u8) -> bool
     requires { ⌜ from + 16 + w ≤ length (now s) ⌝ }
-    ensures { λ r. ⌜ (r ≡ false → Apart first w last (now (s .entry)) from (from + 16)) ⌝ }
+    ensures { λ r. ⌜ (r ≡ false → Apart first w last (now (s .entry)) from (from + 16)) × (r ≡ true → Together first w last (now (s .entry)) from (from + 16)) ⌝ }
 {
     let mut hit = false;
     let mut j = 0;
@@ -58,7 +59,7 @@ fn stands(s: &[u8], from: usize, w: usize, first: u8, last: u8) -> bool
 // The first place from `from` up to `to` at which u begins, or `to`; place by place.
 fn seek(s: &[u8], from: usize, to: usize, u: &[u8]) -> usize
     requires { ⌜ Places (now u) (now s) from to ⌝ }
-    ensures { λ r. ⌜ Leftmost (now (u .entry)) (now (s .entry)) from to r ⌝ }
+    ensures { λ r. ⌜ FirstPlace (now (u .entry)) (now (s .entry)) from to r ⌝ }
 {
     let w = u.len() - 1;
     let first = u[0];
@@ -82,7 +83,7 @@ fn seek(s: &[u8], from: usize, to: usize, u: &[u8]) -> usize
 fn sweep(s: &[u8], to: usize, u: &[u8]) -> usize
     requires { ⌜ Places (now u) (now s) 0 to ⌝ }
     requires { ⌜ 16 ≤ to ⌝ }
-    ensures { λ r. ⌜ Leftmost (now (u .entry)) (now (s .entry)) 0 to r ⌝ }
+    ensures { λ r. ⌜ FirstPlace (now (u .entry)) (now (s .entry)) 0 to r ⌝ }
 {
     let w = u.len() - 1;
     let first = u[0];
@@ -104,7 +105,7 @@ fn sweep(s: &[u8], to: usize, u: &[u8]) -> usize
 // The first place up to `to` at which u begins, or `to`.
 fn search(s: &[u8], to: usize, u: &[u8]) -> usize
     requires { ⌜ Places (now u) (now s) 0 to ⌝ }
-    ensures { λ r. ⌜ Leftmost (now (u .entry)) (now (s .entry)) 0 to r ⌝ }
+    ensures { λ r. ⌜ FirstPlace (now (u .entry)) (now (s .entry)) 0 to r ⌝ }
 {
     if to < SHORT {
         return seek(s, 0, to, u);

@@ -10,6 +10,7 @@ use lib.Dec.{eqb, leb, ltb}
 use lib.ListN.{length, getD}
 use Rattle.limits.specs.Limits.{fewest-tags, most-tags, most-states, longest-sentence}
 use Rattle.words.specs.Word.{Below}
+use Rattle.words.proofs.Word.{below-mono}
 use Rattle.answers.specs.Outcome.{Outcome, result, refused, andThen, provided}
 use Rattle.sentences.specs.Run.{highest, admitted, run}
 use Rattle.sentences.proofs.Run.{highest-below, below-highest}
@@ -103,8 +104,7 @@ module _ (k : ℕ) (t : Table) (v : ValidTable k t) where
   -- ---- the words of a valid table can be noted
 
   wide : (w : List ℕ) → Below k w → Below 0x100 w
-  wide [] b = tt
-  wide (a ∷ w) b = (omega (arith, b .0, v .tags-most), wide w (b .1))
+  wide w b = below-mono k 0x100 w (omega (arith, v .tags-most)) b
 
   noted-steps : (ss : List Step) → ((a : ℕ) → a < length ss → Noted (getD ss a no-step .output)) → NotedSteps ss
   noted-steps [] all = tt

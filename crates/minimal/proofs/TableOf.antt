@@ -3,10 +3,9 @@ use Prim.Native.Nat.{ℕ, zero, suc, _+_, _*_, _-_, _≤_, _<_}
 use native.Mathlib.Omega.{arith}
 use native.Mathlib.Numerals.{add-one}
 use mathlib.Core.Path.{_≡_, refl, sym, ap, _∙_}
-use mathlib.Core.Bool.{false, _||_}
+use mathlib.Core.Bool.{false}
 use mathlib.Core.Logic.{_↔_}
 use mathlib.Core.List.{List, [], _∷_, _++_}
-use lib.Dec.{eqb}
 use lib.ListN.{length, take, getD}
 use Rattle.words.specs.Word.{Below, Prefix}
 use Rattle.words.specs.Front.{first}
@@ -16,7 +15,7 @@ use Rattle.cascades.specs.Rule.{Rule, ValidRule, ValidRules, Cascade, having, V
 use Rattle.cascades.specs.Rewrite.{apply, applyAll, behavior}
 use Rattle.cascades.specs.Ending.{before, misused}
 use Rattle.cascades.specs.Spares.{Spares, Spare}
-use Rattle.cascades.proofs.Ending.{no-or, spares-used, keeps-apply}
+use Rattle.cascades.proofs.Ending.{free-used, spares-used, keeps-apply}
 use Rattle.transducers.specs.Transducer.{Shape, puts, Transducer, turns}
 use Rattle.transducers.specs.Table.{Table, shape}
 use Rattle.transducers.specs.Run.{outputs}
@@ -191,7 +190,7 @@ module _ (l : ℕ) (c : Cascade) (r : Rule) (ok : ValidRule l (c .tags) r) (fits
   n = length (r .pattern)
 
   free : before e (r .pattern) ≡ false
-  free = no-or (before e (r .pattern)) (eqb (getD (r .pattern) (r .place) 0) e || eqb (r .tag) e) fits .0
+  free = free-used e r fits
 
   pub count-other : (getD (r .pattern) (n - 1) 0 ≡ e → ⊥) → length (tableOf (having c (r ∷ []))) ≡ n + 1
   count-other other =

@@ -1,4 +1,5 @@
-// The functions for C (document 01, "host door"): compile, the three runs, loading and the two readers, each answering one number.
+// The functions for C (document 01, "host door"): compile and the run of a book, both also with an end tag, the runs of a table and of a
+// loaded one, loading and the two readers, each answering one number.
 // include/nedzsuka.h tells a host what they promise.
 use books::BookAnswer;
 use decoder::TableAnswer;

@@ -148,9 +148,6 @@ module _ (u : List ℕ) (p b : ℕ) where
             held-le j h,
           )
 
-  pub inside-rule : (k : ℕ) → Inside k (oneRule (rule u p b))
-  inside-rule k j a hj ha = omega (arith, goes-below j a (omega arith))
-
   -- after an end tag nothing is held, so that beginning afresh puts out no more
   module _ (e : ℕ) (free : before e u ≡ false) where
     pub output-afresh : (j a : ℕ) → j ≤ length u → says (rule u p b) j a ≡ afresh e (rule u p b) .output j a

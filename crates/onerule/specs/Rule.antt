@@ -42,7 +42,8 @@ pub record Room (g : Grid) (W : List ℕ) (r : Rule) : Type 0 where
   pub place-inside : r .place < length (r .pattern)
   pub deep : length (r .pattern) + FINAL ≤ g .depth
 
--- the rows from base hold a table of so many states that does what the rule does with each piece, and holds at most one tag less than a pattern may have
+-- the rows from base hold a table of so many states that does what the rule does with each piece, and holds at most one tag less than a
+-- pattern may have
 pub record Ruled (g : Grid) (W X : List ℕ) (base count end : ℕ) (r : Rule) : Type 0 where
   pub few : count ≤ length (r .pattern) + 1
   pub kept : Kept g W X (In-rows base (base + count))

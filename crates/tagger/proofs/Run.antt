@@ -6,7 +6,7 @@ use mathlib.Core.Path.{_≡_, sym, ap, _∙_}
 use mathlib.Core.Bool.{Bool, true, false, not}
 use mathlib.Core.List.{List, [], _∷_, _++_, reverse-cons}
 use lib.ListN.{length, take, drop}
-use lib.Seq.{take-append-seam, drop-append-seam, take-at, length-take-le}
+use lib.Seq.{take-append-seam, drop-append-seam, take-at}
 use Rattle.limits.specs.Limits.{no-end}
 use Rattle.words.specs.Word.{differences}
 use Rattle.answers.specs.Outcome.{Outcome, result, refused, nothing, andThen, provided}
@@ -25,11 +25,10 @@ use Rattle.cascades.proofs.Rewrite.{applyAll-append}
 use Rattle.cascades.proofs.Ending.{without-end}
 use Rattle.books.specs.Read.{read}
 use Rattle.books.specs.Ending.{fitted}
-use Rattle.books.specs.Arrays.{Arrays, Shaped, placeAt, ruleAt, rulesDown, rulesOf, cascadeOf}
+use Rattle.books.specs.Arrays.{Arrays, ruleAt, rulesDown, rulesOf, cascadeOf}
 use Rattle.books.specs.Resume.{Whole}
 use Rattle.books.specs.declared.BookAnswer.{BookAnswer}
 use Rattle.books.specs.declared.BookAnswer.the-variants.{Book}
-use Rattle.books.proofs.Arrays.{pattern-long}
 use Rattle.books.proofs.Encode.{reads-exactly}
 use Rattle.books.proofs.Held.{was-refused, was-read, rules-held}
 use Rattle.tagger.specs.Run.{bookRun}

@@ -1,4 +1,5 @@
--- The run of a book over a sentence, with an end tag: the book's refusals, then 14, 13, 4 and 11, else what the rules leave of each piece, joined.
+-- The run of a book over a sentence, with an end tag: the book's refusals, then 14, 13, 4 and 11, else what the rules leave of each piece,
+-- joined.
 use Prim.Native.Nat.{ℕ}
 use mathlib.Core.List.{List}
 use Rattle.answers.specs.Outcome.{Outcome, andThen}

@@ -11,7 +11,7 @@ use Rattle.words.specs.Pieces.{onto, pieces, each, piecewise}
 use Rattle.words.proofs.Word.{below-append}
 use Rattle.words.proofs.Pieces.{Pieces, pieces-are}
 use Rattle.transducers.specs.Transducer.{Shape, puts}
-use Rattle.transducers.specs.Canonical.{Sound, Held}
+use Rattle.transducers.specs.Canonical.{Sound}
 use Rattle.transducers.specs.Ended.{ended}
 
 -- what f makes of the first piece, and g of each further one
@@ -68,6 +68,3 @@ module _ (e : ℕ) (S : Shape) where
             ≡ length (S .final q) + 1
         even q a h g true = omega (arith, length-append (S .output q a) (S .final (S .next q a)), sound .balanced q a h g, ap length (sound .empty))
         even q a h g false = sound .balanced q a h g
-
-    pub held-ended : (d : ℕ) → Held d S → Held d (ended e S)
-    held-ended d h = h

@@ -1,12 +1,12 @@
--- `leftmost::stands` meets its contract: while nothing is hit, the two tags stand at no place passed.
+-- `leftmost::stands` meets its contract: what is hit stands at a place passed, and while nothing is, the two tags stand at none.
 use Prim.Native.Nat.{_+_, _-_, _≤_}
 use native.Mathlib.Omega.{arith}
 use borrow.Author.Needs.{needs}
 use mathlib.Core.Logic.{⊎-elim}
 use mathlib.Core.Path.{_≡_, sym, _∙_}
-use mathlib.Core.Bool.{false, false≢true}
-use Rattle.leftmost.specs.Leftmost.{Apart}
-use Rattle.leftmost.proofs.Leftmost.{apart-none, apart-more}
+use mathlib.Core.Bool.{true, false, false≢true}
+use Rattle.leftmost.specs.Leftmost.{Apart, Together}
+use Rattle.leftmost.proofs.Leftmost.{apart-none, apart-more, together-here, together-more, together-all}
 use Rattle.leftmost.proofs.stands.Statement.{statement}
 use Rattle.leftmost.proofs.stands.Tie as tie
 use Rattle.leftmost.proofs.stands.Reads as reads
@@ -14,13 +14,13 @@ use Rattle.leftmost.proofs.stands.Lts as lts
 use Rattle.leftmost.proofs.same.Reads as same-reads
 
 abbrev Inv-loop : tie.InvT-loop
-Inv-loop s from w first last hit₀ j₀ hit j = (j ≤ 16) × (hit ≡ false → Apart first w last s from (from + j))
+Inv-loop s from w first last hit₀ j₀ hit j = (j ≤ 16) × (hit ≡ false → Apart first w last s from (from + j)) × (hit ≡ true → Together first w last s from (from + j))
 
 abbrev μ-loop : tie.MeasureT-loop
 μ-loop s from w first last hit₀ j₀ hit j = 16 - j
 
 loop-holds : tie.Need-loop-holds Inv-loop μ-loop
-loop-holds c = (omega arith, λ h. apart-none (c .before .args .first) (c .before .args .w) (c .before .args .last) (c .before .args .s .now) (c .before .args .from) (c .before .args .from + 0) (omega arith))
+loop-holds c = (omega arith, λ h. apart-none (c .before .args .first) (c .before .args .w) (c .before .args .last) (c .before .args .s .now) (c .before .args .from) (c .before .args .from + 0) (omega arith), λ h. absurd (false≢true h))
 
 add-same : tie.Need-add-same Inv-loop μ-loop
 add-same c = search needs
@@ -63,12 +63,16 @@ loop-again c =
           (λ w e. absurd (false≢true (sym e ∙ w .1)))
           (λ w e. apart-more (a .first) (a .w) (a .last) (a .s .now) (a .from) (l .j) (x .result) (y .result) (l .inv .1 (sym (w .1) ∙ e)) (x .ensures .1) (y .ensures .1) (w .0 .left))
           (c .if1 .came),
+      ⊎-elim
+          (λ w e. together-here (a .first) (a .w) (a .last) (a .s .now) (a .from) (l .j) (x .ensures .2 (omega (arith, x .ensures .0, y .ensures .0, w .0 .taken))) (y .ensures .2 (omega (arith, x .ensures .0, y .ensures .0, w .0 .taken))))
+          (λ w e. together-more (a .first) (a .w) (a .last) (a .s .now) (a .from) (l .j) (l .inv .2 (sym (w .1) ∙ e)))
+          (c .if1 .came),
     )
 
 returns : tie.Need-returns Inv-loop μ-loop
 returns c =
     let l = c .before .loop in
-    λ h i k m. l .inv .1 h i k (omega arith)
+    (λ h i k m. l .inv .1 h i k (omega arith), λ h. together-all (c .before .before .before .args .first) (c .before .before .before .args .w) (c .before .before .before .args .last) (c .before .before .before .args .s .now) (c .before .before .before .args .from) (l .j) 16 (l .inv .0) (l .inv .2 h))
 
 pub stands-spec : {M : Type 1} → statement M
 stands-spec =

@@ -76,7 +76,7 @@ loop-again c =
     passed-block (a .u .now) (a .s .now) (l .i) (a .to) (f .result) (omega arith) (f .ensures) (l .inv)
     (⊎-elim
     (λ w k x y. w .1 .ensures .passed k x (omega arith))
-    (λ w. apart-nowhere (a .u .now) (a .s .now) (length (a .u .now) - 1) (f .result) (f .result + 16) (omega arith) (omega arith) (c .before .stands .ensures (w .left)))
+    (λ w. apart-nowhere (a .u .now) (a .s .now) (length (a .u .now) - 1) (f .result) (f .result + 16) (omega arith) (omega arith) (c .before .stands .ensures .0 (w .left)))
     (c .if1 .came))
 
 returns-2 : tie.Need-returns-2 Inv-loop μ-loop
