@@ -6,7 +6,8 @@
    tags at each, and at the end the final word of its state. A loaded table is a table as numbers, made for running.
 
    Which call is for what: nedzsuka_run_book for a book that is still edited; nedzsuka_run_table for a table that is used once;
-   nedzsuka_load_table, once, and then nedzsuka_run_loaded for a table that is run on every sentence.
+   nedzsuka_load_table, once, and then nedzsuka_run_loaded for a table that is run on every sentence; nedzsuka_open, nedzsuka_give,
+   nedzsuka_look and nedzsuka_close for a sentence that is still typed, through struct nedzsuka_sentence below.
 
    A slice that holds several sentences, a paragraph, is for nedzsuka_compile_ending and nedzsuka_run_book_ending: they take an end tag,
    the number of the full stop. The slice is cut after each end tag, the rules are applied to each piece by itself, and the pieces are
@@ -18,19 +19,23 @@
    - The answer is one number: the result's length or count times 256, plus the refusal, 0 for none. On a refusal the upper part is 0;
      with 10 it is the rule's number, and with a refusal of nedzsuka_read_book the byte. nedzsuka_value and nedzsuka_refusal take it
      apart, and nedzsuka_in_words puts a refusal into words.
-   - A refused call writes nothing into the output slice. Otherwise the result stands at the front of the output slice, and what lies
-     beyond the result stays as it was. The output slice of nedzsuka_load_table is the loaded one.
+   - A refused call writes nothing into the output slice, and leaves the three numbers of a typed sentence as they were. Otherwise the
+     result stands at the front of the output slice, and what lies beyond the result stays as it was. The output slice of
+     nedzsuka_load_table is the loaded one.
    - The other slices are only read, the work slice of compile excepted.
    - It allocates nothing and keeps nothing from one call to the next: several threads may call at once, each with output and work
-     slices of its own. One loaded table serves several threads, since running it only reads it.
+     slices of its own, and typed sentences of its own. One table, loaded or not, serves several threads, since running it only reads it.
    - Of the stack nedzsuka_run_table, nedzsuka_read_table and nedzsuka_load_table take less than 2,000 bytes if S * (K + 1) is at most
      192, some 10,400 if it is at most 1,024, some 35,000 if it is at most 4,096, else some 102,500; nedzsuka_run_loaded less than 1,000
-     for a sentence of at most 256 tags, some 2,900 for one of at most 2,048, else some 66,400; the other calls less than 1,200.
+     for a sentence of at most 256 tags, some 2,900 for one of at most 2,048, else some 66,400; nedzsuka_open, nedzsuka_give,
+     nedzsuka_look and nedzsuka_close what nedzsuka_run_table takes for the same table; the other calls less than 1,200.
 
    What is asked of the caller
    - A pointer reaches as many entries as the length beside it says. It may be null only where that length is 0.
    - The work pointer is aligned for uint16_t, the loaded pointer for uint32_t.
    - The output slice and the work slice overlap no other slice of the same call. Slices that are only read may overlap one another.
+   - The pointers to the numbers of a typed sentence are not null, aligned for uint64_t, and point to three different numbers, which
+     overlap no slice of the same call.
    - While a call reads a slice, nothing writes to it. Between calls a host may write what it likes, also over a loaded table.
 
    Bytes of a book (hexadecimal): 20 K opens it; 21 p t opens a rule that puts tag t in place p, counted from 0, and closes the rule
@@ -48,8 +53,8 @@
 #include <stdint.h>
 
 /* The version, in words and as 10,000 * major + 100 * minor + patch. */
-#define NEDZSUKA_VERSION "0.3.0"
-#define NEDZSUKA_VERSION_NUMBER 300
+#define NEDZSUKA_VERSION "0.4.0"
+#define NEDZSUKA_VERSION_NUMBER 400
 
 #ifdef __cplusplus
 extern "C" {
@@ -62,7 +67,8 @@ enum nedzsuka_bound {
     NEDZSUKA_MOST_RULES = 16,           /* rules in a book */
     NEDZSUKA_LONGEST_PATTERN = 6,       /* tags in a pattern; at least one */
     NEDZSUKA_MOST_STATES = 256,         /* states of a table, and the greatest ceiling; at least one */
-    NEDZSUKA_MOST_HELD = 80,            /* tags that a state holds */
+    NEDZSUKA_MOST_HELD = 80,            /* tags that a state holds, and that a look or a close puts out */
+    NEDZSUKA_MOST_PUT = 81,             /* tags that a give puts out */
     NEDZSUKA_LONGEST_SENTENCE = 65535,  /* tags */
     NEDZSUKA_LONGEST_BOOK = 243,        /* bytes of a valid book: 2 + 16 * (3 + 6 * 2) + 1 */
     NEDZSUKA_LONGEST_TABLE = 2061157,   /* bytes of a well-formed table, compiled or not: 4 + 242 + 255 * 8082 + 1 */
@@ -77,7 +83,7 @@ enum nedzsuka_refusal_number {
     NEDZSUKA_BAD_COMMAND = 1,        /* book: a command unknown or out of place, bytes missing, or bytes after 00 */
     NEDZSUKA_BAD_TAG_COUNT = 2,      /* book: K outside 2 to 48 */
     NEDZSUKA_BAD_PATTERN = 3,        /* book: a pattern that is empty when its rule closes, or a seventh 22 */
-    NEDZSUKA_BAD_TAG = 4,            /* book or sentence: a tag or new tag not below K */
+    NEDZSUKA_BAD_TAG = 4,            /* book, sentence or give: a tag or new tag not below K */
     NEDZSUKA_BAD_PLACE = 5,          /* book: p not below the pattern's length when the rule closes */
     NEDZSUKA_SAME_TAG = 6,           /* book: the new tag is the tag at p when the rule closes */
     NEDZSUKA_TOO_MANY_RULES = 7,     /* book: a seventeenth 21 */
@@ -86,8 +92,10 @@ enum nedzsuka_refusal_number {
     NEDZSUKA_TOO_MANY_STATES = 10,   /* compile: the first i rules need more states than the ceiling; i is the answer's value */
     NEDZSUKA_SHORT_OUTPUT = 11,      /* every call with an output slice: it is shorter than the result */
     NEDZSUKA_BAD_TABLE = 12,         /* table: not well formed; loaded table: its numbers make no result of the sentence */
-    NEDZSUKA_LONG_SENTENCE = 13,     /* sentence: longer than 65,535 tags */
-    NEDZSUKA_BAD_END = 14            /* calls with an end tag: the book cannot be used with it */
+    NEDZSUKA_LONG_SENTENCE = 13,     /* sentence: longer than 65,535 tags; give: 65,535 or more have been given */
+    NEDZSUKA_BAD_END = 14,           /* calls with an end tag: the book cannot be used with it */
+    NEDZSUKA_CLOSED = 15,            /* give, look and close: the sentence is closed */
+    NEDZSUKA_BAD_STATE = 16          /* give, look and close: the sentence's state is not below the table's S */
 };
 
 /* Compiles a book to its smallest table and answers the table's length in bytes.
@@ -199,6 +207,76 @@ uint64_t nedzsuka_load_table(const uint8_t *table, size_t table_len, uint32_t *l
 uint64_t nedzsuka_run_loaded(const uint32_t *loaded, size_t loaded_len, const uint8_t *sentence, size_t sentence_len, uint8_t *out,
                              size_t out_len);
 
+/* Opens a sentence over a table, to be typed tag by tag, and answers 0.
+
+   A typed sentence is three numbers that the host keeps: the table's state, how many tags were given, and whether it is closed, 0 for
+   open and any other number for closed. This call sets them to 0, 0 and 0. Over one table, from an opening on and whatever looks and
+   refused calls lie between, what the gives put out and then the close, joined, is what nedzsuka_run_table makes of the tags taken. What
+   was put out is certain: no further tag changes it. No count of changed tags is given here.
+
+   The numbers may hold any values, and another table may be given: each call answers for what it gets. It reads the whole table for
+   that, as nedzsuka_run_table does, so it costs the table's bytes, whatever was typed before. For sentences that are finished load the
+   table instead.
+
+   Refusal: 12, the table is not well formed. */
+uint64_t nedzsuka_open(const uint8_t *table, size_t table_len, uint64_t *state, uint64_t *given, uint64_t *closed);
+
+/* Gives one tag: what the table's step from the state on the tag puts out goes to the front of out, and the answer is how many tags these
+   are, 0 to 81. The state becomes the step's next state, and given goes up by one.
+
+   Refusals, in this order:
+   - 12: the table is not well formed.
+   - 15: closed is not 0.
+   - 16: the state is not below the table's S. Over one table it never is, from an opening on.
+   - 13: given is 65,535 or more.
+   - 4: the tag is not below the table's K.
+   - 11: out_len is below the number of tags that the step puts out. A step that puts out none asks for no room. */
+uint64_t nedzsuka_give(const uint8_t *table, size_t table_len, uint64_t *state, uint64_t *given, uint64_t *closed, uint8_t tag,
+                       uint8_t *out, size_t out_len);
+
+/* Looks at what closing now would give: the tags that the state holds, its final word, go to the front of out, and the answer is how many
+   these are, 0 to 80. The sentence stays as it is. What given is plays no part.
+
+   Refusals, in this order: 12, 15 and 16, as for nedzsuka_give, and
+   - 11: out_len is below the number of tags that the state holds. */
+uint64_t nedzsuka_look(const uint8_t *table, size_t table_len, uint64_t state, uint64_t given, uint64_t closed, uint8_t *out,
+                       size_t out_len);
+
+/* Closes the sentence: puts out and answers what nedzsuka_look does, and sets closed to 1. State and given stay as they are.
+
+   Refusals: 12, 15, 16 and 11, as for nedzsuka_look. */
+uint64_t nedzsuka_close(const uint8_t *table, size_t table_len, uint64_t *state, uint64_t *given, uint64_t *closed, uint8_t *out,
+                        size_t out_len);
+
+/* A typed sentence, with any values. It may be copied: a copy is a second sentence, which goes on from there, so that a host which keeps
+   the copy from before a tag can undo the tag. The four functions are the four calls. */
+struct nedzsuka_sentence {
+    uint64_t state, given, closed;
+};
+
+static inline uint64_t nedzsuka_sentence_open(const uint8_t *table, size_t table_len, struct nedzsuka_sentence *sentence)
+{
+    return nedzsuka_open(table, table_len, &sentence->state, &sentence->given, &sentence->closed);
+}
+
+static inline uint64_t nedzsuka_sentence_give(const uint8_t *table, size_t table_len, struct nedzsuka_sentence *sentence, uint8_t tag,
+                                              uint8_t *out, size_t out_len)
+{
+    return nedzsuka_give(table, table_len, &sentence->state, &sentence->given, &sentence->closed, tag, out, out_len);
+}
+
+static inline uint64_t nedzsuka_sentence_look(const uint8_t *table, size_t table_len, const struct nedzsuka_sentence *sentence,
+                                              uint8_t *out, size_t out_len)
+{
+    return nedzsuka_look(table, table_len, sentence->state, sentence->given, sentence->closed, out, out_len);
+}
+
+static inline uint64_t nedzsuka_sentence_close(const uint8_t *table, size_t table_len, struct nedzsuka_sentence *sentence, uint8_t *out,
+                                               size_t out_len)
+{
+    return nedzsuka_close(table, table_len, &sentence->state, &sentence->given, &sentence->closed, out, out_len);
+}
+
 /* The refusal of an answer, 0 for none. */
 static inline unsigned nedzsuka_refusal(uint64_t answer)
 {
@@ -231,6 +309,8 @@ static inline const char *nedzsuka_in_words(unsigned refusal)
         "the table is not well formed, or the loaded one makes no result of the sentence",
         "the sentence is longer than 65,535 tags",
         "the end tag is no tag of the book, or stands in a pattern before its last place, or a rule changes or makes it",
+        "the sentence is closed",
+        "the sentence's state is not one of the table's",
     };
 
     return refusal < sizeof words / sizeof *words ? words[refusal] : "unknown refusal";
