@@ -12,21 +12,24 @@
 #include "reference.h"
 #include "slices.h"
 
-enum { REFUSALS = 15, SIZES = 9, MOST_SHOWN = 4096, SECONDS_A_CALL = 100 };
+enum { REFUSALS = 17, SIZES = 9, MOST_SHOWN = 4096, SECONDS_A_CALL = 100 };
+enum { STATE, GIVEN, CLOSED, NUMBERS };
 
 static const char *const call_name[CALLS] = {
     "nedzsuka_compile",   "nedzsuka_compile_ending", "nedzsuka_run_book",   "nedzsuka_run_book_ending", "nedzsuka_run_table",
-    "nedzsuka_read_book", "nedzsuka_read_table",     "nedzsuka_load_table", "nedzsuka_run_loaded"};
+    "nedzsuka_read_book", "nedzsuka_read_table",     "nedzsuka_load_table", "nedzsuka_run_loaded",      "nedzsuka_open",
+    "nedzsuka_give",      "nedzsuka_look",           "nedzsuka_close"};
 
 static struct {
     enum call call;
     const uint8_t *bytes, *sentence; /* bytes: of the book, the table or the loaded numbers */
     size_t length, sentence_len, work_len, out_len;
     uint64_t ceiling, answer, expected;
-    uint8_t end;
+    uint8_t end, tag;
+    uint64_t number[NUMBERS]; /* of the typed sentence, before the call */
 } now;
 
-static struct slice first_slice, sentence_slice, out_slice, work_slice, loaded_slice;
+static struct slice first_slice, sentence_slice, out_slice, work_slice, loaded_slice, number_slice[NUMBERS];
 static uint8_t *expected_out;
 static uint16_t *expected_work;
 static uint32_t *expected_loaded;
@@ -44,6 +47,11 @@ static void print_hex(const char *name, const uint8_t *bytes, size_t length)
     fprintf(stderr, "%s\n", length > MOST_SHOWN ? " .. (the seed gives the rest)" : "");
 }
 
+static int is_typing(enum call call)
+{
+    return call == OPEN || call == GIVE || call == LOOK || call == CLOSE;
+}
+
 static void print_input(void)
 {
     if (now.call == RUN_LOADED) {
@@ -53,7 +61,11 @@ static void print_input(void)
         fprintf(stderr, "\n");
         return;
     }
-    print_hex(now.call == RUN_TABLE || now.call == READ_TABLE || now.call == LOAD_TABLE ? "table" : "book", now.bytes, now.length);
+    print_hex(now.call == RUN_TABLE || now.call == READ_TABLE || now.call == LOAD_TABLE || is_typing(now.call) ? "table" : "book",
+              now.bytes, now.length);
+    if (is_typing(now.call))
+        fprintf(stderr, "state %" PRIu64 ", given %" PRIu64 ", closed %" PRIu64 ", tag %d\n", now.number[STATE], now.number[GIVEN],
+                now.number[CLOSED], now.tag);
 }
 
 void fail(const char *what)
@@ -99,6 +111,8 @@ void start_calls(uint64_t seed)
     out_slice = make_slice(TABLE_ROOM);
     work_slice = make_slice((MOST_WORK + 1000) * sizeof(uint16_t));
     loaded_slice = make_slice(TABLE_ROOM * sizeof(uint32_t));
+    for (int i = 0; i < NUMBERS; i++)
+        number_slice[i] = make_slice(sizeof(uint64_t));
     expected_out = room_for(TABLE_ROOM);
     expected_work = room_for((MOST_WORK + 1000) * sizeof(uint16_t));
     expected_loaded = room_for(TABLE_ROOM * sizeof(uint32_t));
@@ -141,7 +155,7 @@ static void check_output(const struct slice *slice, const void *expected, const 
     if (slice->length > 0 && memcmp(slice->at, expected, slice->length) != 0)
         fail(differs);
     if (!guards_kept(slice))
-        fail("the call writes around an output or work slice");
+        fail("the call writes around an output or work slice, or around a number");
 }
 
 static void count_answer(void)
@@ -340,6 +354,66 @@ uint64_t compare_run_loaded(const uint32_t *loaded, size_t loaded_len, const uin
     check_out();
     check_input(&sentence_slice, sentence, "the call changes its sentence");
     count_answer();
+    return now.answer;
+}
+
+static uint64_t *lent_number(int which)
+{
+    return (uint64_t *)(void *)number_slice[which].at;
+}
+
+/* The numbers that the reference leaves go to expected. */
+static void type_both(uint64_t *expected)
+{
+    const uint8_t *table = first_slice.at;
+    uint64_t *state = &expected[STATE], *given = &expected[GIVEN], *closed = &expected[CLOSED];
+
+    if (now.call == OPEN)
+        now.expected = reference_open(now.bytes, now.length, state, given, closed);
+    else if (now.call == GIVE)
+        now.expected = reference_give(now.bytes, now.length, state, given, closed, now.tag, expected_out, now.out_len);
+    else if (now.call == LOOK)
+        now.expected = reference_look(now.bytes, now.length, *state, *given, *closed, expected_out, now.out_len);
+    else
+        now.expected = reference_close(now.bytes, now.length, state, given, closed, expected_out, now.out_len);
+    state = lent_number(STATE);
+    given = lent_number(GIVEN);
+    closed = lent_number(CLOSED);
+    alarm(SECONDS_A_CALL);
+    if (now.call == OPEN)
+        now.answer = nedzsuka_open(table, now.length, state, given, closed);
+    else if (now.call == GIVE)
+        now.answer = nedzsuka_give(table, now.length, state, given, closed, now.tag, out_slice.at, now.out_len);
+    else if (now.call == LOOK)
+        now.answer = nedzsuka_look(table, now.length, *state, *given, *closed, out_slice.at, now.out_len);
+    else
+        now.answer = nedzsuka_close(table, now.length, state, given, closed, out_slice.at, now.out_len);
+}
+
+uint64_t compare_typed(enum call call, const uint8_t *table, size_t table_len, struct nedzsuka_sentence *sentence, unsigned tag,
+                       size_t out_len)
+{
+    uint64_t number[NUMBERS] = {sentence->state, sentence->given, sentence->closed};
+
+    now.call = call;
+    now.bytes = table;
+    now.length = table_len;
+    now.tag = (uint8_t)tag;
+    now.out_len = out_len;
+    memcpy(now.number, number, sizeof number);
+    lend_input(&first_slice, table, table_len);
+    lend_random(&out_slice, out_len, expected_out);
+    for (int i = 0; i < NUMBERS; i++)
+        lend_input(&number_slice[i], (const uint8_t *)&number[i], sizeof number[i]);
+    type_both(number);
+    check_call();
+    check_out();
+    for (int i = 0; i < NUMBERS; i++)
+        check_output(&number_slice[i], &number[i], "the sentence's numbers aren't the reference's");
+    count_answer();
+    sentence->state = *lent_number(STATE);
+    sentence->given = *lent_number(GIVEN);
+    sentence->closed = *lent_number(CLOSED);
     return now.answer;
 }
 

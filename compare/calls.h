@@ -5,7 +5,24 @@
 #include <stddef.h>
 #include <stdint.h>
 
-enum call { COMPILE, COMPILE_ENDING, RUN_BOOK, RUN_BOOK_ENDING, RUN_TABLE, READ_BOOK, READ_TABLE, LOAD_TABLE, RUN_LOADED, CALLS };
+#include "nedzsuka.h"
+
+enum call {
+    COMPILE,
+    COMPILE_ENDING,
+    RUN_BOOK,
+    RUN_BOOK_ENDING,
+    RUN_TABLE,
+    READ_BOOK,
+    READ_TABLE,
+    LOAD_TABLE,
+    RUN_LOADED,
+    OPEN,
+    GIVE,
+    LOOK,
+    CLOSE,
+    CALLS
+};
 enum { LONGEST_TRIED_SENTENCE = 70000, LONGEST_TABLE = 2061157, TABLE_ROOM = 2400000, MOST_WORK = 16 * 256 * 49 * 88, NO_END = 255 };
 
 /* The output slice of the last call, as the library left it, and that of the last load. */
@@ -27,6 +44,9 @@ uint64_t compare_read(enum call call, const uint8_t *bytes, size_t length);
 uint64_t compare_load(const uint8_t *table, size_t table_len, size_t loaded_len);
 uint64_t compare_run_loaded(const uint32_t *loaded, size_t loaded_len, const uint8_t *sentence, size_t sentence_len,
                             size_t out_len);
+/* One of OPEN, GIVE, LOOK and CLOSE; the tag is GIVE's alone. The sentence's numbers become what the library leaves. */
+uint64_t compare_typed(enum call call, const uint8_t *table, size_t table_len, struct nedzsuka_sentence *sentence, unsigned tag,
+                       size_t out_len);
 
 /* The entries that document 01 asks of a work slice. */
 size_t work_entries(size_t ceiling, size_t tags, size_t rules);

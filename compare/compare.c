@@ -11,6 +11,7 @@
 #include "loaded.h"
 #include "nedzsuka.h"
 #include "slices.h"
+#include "typing.h"
 
 enum { SMALL_RULES = 34, SMALL_BOOKS = 1 + SMALL_RULES + SMALL_RULES * SMALL_RULES, LONGEST_SENTENCE = 65535 };
 
@@ -132,6 +133,8 @@ static void compare_damaged_bytes(enum call call, const uint8_t *bytes, size_t l
         compare_compile(bytes, length, 4, work_entries(4, 48, 2), 300);
     else
         compare_load(bytes, length, 60);
+    if (call == RUN_TABLE)
+        compare_any_typed(bytes, length, 1);
     compare_run(call, bytes, length, tags, sizeof tags, sizeof tags);
     compare_read(call == RUN_BOOK ? READ_BOOK : READ_TABLE, bytes, length);
 }
@@ -286,6 +289,7 @@ static void compare_book(const struct made_book *book, size_t runs)
     compare_runs(bytes, length, table_len, runs);
     compare_read(READ_BOOK, bytes, length);
     compare_loaded_table(table, table_len, runs);
+    compare_typed_table(table, table_len, 1);
     if (one_in(20))
         compare_long_runs(bytes, length, table_len);
 }
@@ -439,6 +443,8 @@ static void compare_tables(size_t times)
         compare_run(RUN_TABLE, bytes, length, sentence, count, some_room(count));
         if (one_in(4))
             compare_loaded_table(bytes, length, 2);
+        if (one_in(4))
+            compare_typed_table(bytes, length, 1);
         if (big && states * tags > 4000)
             continue;
         for (int i = 0; i < 2; i++) {
@@ -446,6 +452,7 @@ static void compare_tables(size_t times)
             compare_run(RUN_TABLE, bytes, damaged, sentence, count, some_room(count));
             if (one_in(4))
                 compare_loaded_table(bytes, damaged, 0);
+            compare_any_typed(bytes, damaged, 1);
             length = random_table(tags, states, first, held, bytes);
         }
     }
@@ -465,6 +472,7 @@ static void compare_table_bounds(void)
             compare_run(RUN_TABLE, bytes, length, sentence, count, count);
         }
         compare_loaded_table(bytes, length, 4);
+        compare_typed_table(bytes, length, 2);
     }
 }
 
@@ -641,6 +649,7 @@ int main(int argc, char **argv)
     compare_lengthened_books(6000);
     compare_table_bounds();
     compare_tables(60000);
+    compare_longest_typed(3);
     compare_books(8000);
     compare_reordered(150);
     compare_ceilings();

@@ -381,6 +381,78 @@ uint64_t reference_read_table(const uint8_t *bytes, size_t length)
     return ((uint64_t)table.tags * 65536 + (uint64_t)table.states) * 256;
 }
 
+/* ---- Typed sentences ---- */
+
+/* What a give, a look and a close are refused alike, before what each has of its own. */
+static int refusal_of_typed(const uint8_t *bytes, size_t length, uint64_t state, uint64_t closed, struct machine *table)
+{
+    if (!read_table(bytes, length, table))
+        return 12;
+    if (closed != 0)
+        return 15;
+    return state < (uint64_t)table->states ? 0 : 16;
+}
+
+static uint64_t put_out(const struct word *word, uint8_t *out, size_t out_len)
+{
+    if (out_len < word->length)
+        return 11;
+    for (int i = 0; i < word->length; i++)
+        out[i] = word->tag[i];
+    return (uint64_t)word->length * 256;
+}
+
+uint64_t reference_open(const uint8_t *bytes, size_t length, uint64_t *state, uint64_t *given, uint64_t *closed)
+{
+    static struct machine table;
+
+    if (!read_table(bytes, length, &table))
+        return 12;
+    *state = *given = *closed = 0;
+    return 0;
+}
+
+uint64_t reference_give(const uint8_t *bytes, size_t length, uint64_t *state, uint64_t *given, uint64_t *closed, uint8_t tag,
+                        uint8_t *out, size_t out_len)
+{
+    static struct machine table;
+    int refusal = refusal_of_typed(bytes, length, *state, *closed, &table);
+    uint64_t answer;
+
+    if (!refusal && *given >= LONGEST_SENTENCE)
+        refusal = 13;
+    if (!refusal && tag >= table.tags)
+        refusal = 4;
+    if (refusal)
+        return (uint64_t)refusal;
+    answer = put_out(&table.row[*state].out[tag], out, out_len);
+    if (answer % 256 == 0) {
+        *state = table.row[*state].next[tag];
+        ++*given;
+    }
+    return answer;
+}
+
+uint64_t reference_look(const uint8_t *bytes, size_t length, uint64_t state, uint64_t given, uint64_t closed, uint8_t *out,
+                        size_t out_len)
+{
+    static struct machine table;
+    int refusal = refusal_of_typed(bytes, length, state, closed, &table);
+
+    (void)given;
+    return refusal ? (uint64_t)refusal : put_out(&table.row[state].final, out, out_len);
+}
+
+uint64_t reference_close(const uint8_t *bytes, size_t length, uint64_t *state, uint64_t *given, uint64_t *closed, uint8_t *out,
+                         size_t out_len)
+{
+    uint64_t answer = reference_look(bytes, length, *state, *given, *closed, out, out_len);
+
+    if (answer % 256 == 0)
+        *closed = 1;
+    return answer;
+}
+
 /* ---- Tables as numbers ---- */
 
 #define RESTING UINT32_C(0xffffffff)

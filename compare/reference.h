@@ -20,5 +20,12 @@ uint64_t reference_read_table(const uint8_t *table, size_t table_len);
 uint64_t reference_load_table(const uint8_t *table, size_t table_len, uint32_t *loaded, size_t loaded_len);
 uint64_t reference_run_loaded(const uint32_t *loaded, size_t loaded_len, const uint8_t *sentence, size_t sentence_len,
                               uint8_t *out, size_t out_len);
+uint64_t reference_open(const uint8_t *table, size_t table_len, uint64_t *state, uint64_t *given, uint64_t *closed);
+uint64_t reference_give(const uint8_t *table, size_t table_len, uint64_t *state, uint64_t *given, uint64_t *closed, uint8_t tag,
+                        uint8_t *out, size_t out_len);
+uint64_t reference_look(const uint8_t *table, size_t table_len, uint64_t state, uint64_t given, uint64_t closed, uint8_t *out,
+                        size_t out_len);
+uint64_t reference_close(const uint8_t *table, size_t table_len, uint64_t *state, uint64_t *given, uint64_t *closed,
+                         uint8_t *out, size_t out_len);
 
 #endif

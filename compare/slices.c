@@ -72,7 +72,7 @@ static uint8_t guard_byte(const struct slice *slice, const uint8_t *place)
 void lend(struct slice *slice, size_t length)
 {
     enum seat seat = (enum seat)random_below(SEATS);
-    size_t step = length % 4 == 0 ? 4 : length % 2 == 0 ? 2 : 1;
+    size_t step = length % 8 == 0 ? 8 : length % 4 == 0 ? 4 : length % 2 == 0 ? 2 : 1;
 
     slice->length = length;
     slice->salt = (uint8_t)random_bits();

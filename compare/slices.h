@@ -24,7 +24,7 @@ void fill_random(void *bytes, size_t length);
 
 /* Room for slices of at most this many bytes. */
 struct slice make_slice(size_t most);
-/* Lends so many bytes, at an address that 2 or 4 divides where it divides the length; their content is left as it is. */
+/* Lends so many bytes, at an address that 2, 4 or 8 divides where it divides the length; their content is left as it is. */
 void lend(struct slice *slice, size_t length);
 /* The guard bytes are as lending left them. */
 int guards_kept(const struct slice *slice);
