@@ -1,4 +1,5 @@
-/* Makes one call of the library for each line of standard input and prints one line for each; cases/calls.sh has the lines.
+/* Makes one call of the library for each line of standard input, or several for one that types, and prints one line for each;
+   cases/calls.sh has the lines.
 
    run_table ROOM TABLE / SENTENCE      the number of changed tags or the refusal, then the output slice
    run_book ROOM BOOK / SENTENCE        the same
@@ -8,12 +9,21 @@
    read_table TABLE                     the tags and states, or the refusal
    load_table ROOM TABLE                how many numbers were written or the refusal, then the loaded slice
    run_loaded ROOM NUMBERS / SENTENCE   the number of changed tags or the refusal, then the output slice
+   type TABLE / STEP ..                 for each call how many tags were put out or the refusal, then the output slice, and the sentence:
+                                        its state, the tags given and whether it is closed
+
+   The steps of a line share one sentence, whose numbers are seven at first. A step is a call:
+
+   open, give TAG ROOM, look ROOM, close ROOM
+
+   or what a host does between two calls: set STATE GIVEN CLOSED, which sets the sentence's numbers, or byte AT BYTE, which replaces a byte
+   of the table.
 
    With ending END in front, run_book, compile and slices make the calls that name an end tag.
 
    ROOM is the length of the output slice, ENTRIES that of the work slice; bytes are pairs of hexadecimal digits, numbers decimal. Output
-   and work slices are the front of longer memory, which holds sevens before each call. A line that can't be read ends the program with
-   status 2. */
+   and work slices are the front of longer memory, which holds sevens before each call; typing tells where other bytes of it were written.
+   A line that can't be read ends the program with status 2. */
 #include <nedzsuka.h>
 
 #include <inttypes.h>
@@ -38,16 +48,16 @@ static void unreadable(const char *why)
     exit(2);
 }
 
-static uint32_t number_of(const char *word, uint32_t most)
+static uint64_t number_of(const char *word, uint64_t most)
 {
-    unsigned long long number = word == NULL ? 0 : strtoull(word, NULL, 10);
+    uint64_t number = word == NULL ? 0 : strtoull(word, NULL, 10);
 
     if (word == NULL || word[strspn(word, "0123456789")] != '\0' || number > most)
         unreadable("a number is missing, wrong or too large");
-    return (uint32_t)number;
+    return number;
 }
 
-static uint32_t read_number(uint32_t most)
+static uint64_t read_number(uint64_t most)
 {
     return number_of(strtok(NULL, " \n"), most);
 }
@@ -61,11 +71,18 @@ static size_t read_numbers(uint32_t *numbers)
     for (; word != NULL && strcmp(word, "/") != 0; word = strtok(NULL, " \n")) {
         if (length == MOST_NUMBERS)
             unreadable("a number is one too many");
-        numbers[length++] = number_of(word, UINT32_MAX);
+        numbers[length++] = (uint32_t)number_of(word, UINT32_MAX);
     }
     if (word == NULL)
         unreadable("a slash is missing");
     return length;
+}
+
+static uint8_t byte_of(const char *word)
+{
+    if (word == NULL || strlen(word) != 2 || strspn(word, "0123456789abcdef") != 2)
+        unreadable("a byte is missing or wrong");
+    return (uint8_t)strtoul(word, NULL, 16);
 }
 
 /* Reads bytes up to the end of the line, or up to a slash where there has to be one, and answers how many they are. */
@@ -75,9 +92,9 @@ static size_t read_bytes(uint8_t *bytes, int slash)
     size_t length = 0;
 
     for (; word != NULL && strcmp(word, "/") != 0; word = strtok(NULL, " \n")) {
-        if (strlen(word) != 2 || strspn(word, "0123456789abcdef") != 2 || length == MOST_BYTES)
-            unreadable("a byte is wrong or one too many");
-        bytes[length++] = (uint8_t)strtoul(word, NULL, 16);
+        if (length == MOST_BYTES)
+            unreadable("a byte is one too many");
+        bytes[length++] = byte_of(word);
     }
     if ((word != NULL) != slash)
         unreadable("a slash is missing or one too many");
@@ -123,13 +140,18 @@ static void load_table(void)
         printf(" %" PRIu32, loaded[i]);
 }
 
+static void print_output(size_t room)
+{
+    printf(", output");
+    for (size_t i = 0; i < room; i++)
+        printf(" %d", out[i]);
+}
+
 static void print_run(uint64_t answer, size_t room)
 {
     if (!refused(answer, "nothing"))
         printf("%" PRIu64 " changed", nedzsuka_value(answer));
-    printf(", output");
-    for (size_t i = 0; i < room; i++)
-        printf(" %d", out[i]);
+    print_output(room);
 }
 
 static uint64_t run_book(size_t book_len, size_t length, uint8_t *to, size_t room)
@@ -201,6 +223,60 @@ static void compile(int slices)
         printf(", agree on %d of %d sentences", agreements(book_len, (size_t)nedzsuka_value(answer)), DRAWN);
 }
 
+static void print_step(uint64_t answer, const char *call, size_t room, const struct nedzsuka_sentence *typed)
+{
+    if (!refused(answer, "nothing"))
+        printf("%" PRIu64 " put", nedzsuka_value(answer));
+    if (strcmp(call, "open") != 0)
+        print_output(room);
+    for (size_t i = room; i < MOST_BYTES; i++)
+        if (out[i] != 7)
+            printf(", written at %zu", i);
+    printf(", sentence %" PRIu64 " %" PRIu64 " %" PRIu64, typed->state, typed->given, typed->closed);
+}
+
+static void make_step(const char *call, size_t table_len, struct nedzsuka_sentence *typed)
+{
+    uint8_t tag = strcmp(call, "give") == 0 ? (uint8_t)read_number(UINT8_MAX) : 0;
+    size_t room = strcmp(call, "open") == 0 ? 0 : read_number(MOST_BYTES);
+    uint64_t answer = 0;
+
+    memset(out, 7, sizeof out);
+    if (strcmp(call, "open") == 0)
+        answer = nedzsuka_sentence_open(first, table_len, typed);
+    else if (strcmp(call, "give") == 0)
+        answer = nedzsuka_sentence_give(first, table_len, typed, tag, out, room);
+    else if (strcmp(call, "look") == 0)
+        answer = nedzsuka_sentence_look(first, table_len, typed, out, room);
+    else if (strcmp(call, "close") == 0)
+        answer = nedzsuka_sentence_close(first, table_len, typed, out, room);
+    else
+        unreadable("a step doesn't begin with its name");
+    print_step(answer, call, room, typed);
+}
+
+static void type(void)
+{
+    struct nedzsuka_sentence typed = {7, 7, 7};
+    size_t table_len = read_bytes(first, 1);
+    const char *between = "";
+
+    for (const char *word = strtok(NULL, " \n"); word != NULL; word = strtok(NULL, " \n")) {
+        if (strcmp(word, "set") == 0) {
+            typed.state = read_number(UINT64_MAX);
+            typed.given = read_number(UINT64_MAX);
+            typed.closed = read_number(UINT64_MAX);
+        } else if (strcmp(word, "byte") == 0) {
+            size_t at = read_number(MOST_BYTES - 1);
+            first[at] = byte_of(strtok(NULL, " \n"));
+        } else {
+            fputs(between, stdout);
+            make_step(word, table_len, &typed);
+            between = "; ";
+        }
+    }
+}
+
 static const char *read_ending(const char *word)
 {
     with_end = word != NULL && strcmp(word, "ending") == 0;
@@ -231,6 +307,8 @@ static void answer_line(const char *word)
         load_table();
     else if (strcmp(word, "run_loaded") == 0)
         run_loaded();
+    else if (strcmp(word, "type") == 0)
+        type();
     else
         unreadable("it doesn't begin with a call's name");
     putchar('\n');

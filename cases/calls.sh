@@ -387,3 +387,131 @@ compile_ending '0 3 to 1 3' 3 1 "$closing" 'refused 10 at rule 1'
 compile_ending '0 3 to 1 3' 2 3 "$closing" "states 3, bytes 77, $agree"
 compile_ending '0 3 to 1 3' 255 2 "$closing" 'refused 10 at rule 1'
 compile_ending 'no rules' 0 1 '20 04 00' "states 1, bytes 27, $agree"
+
+# ---- Typed sentences ----
+
+# typing NAME TABLE STEP RESULT [STEP RESULT ..]: over one table and with one sentence; a step is a call and what is done before it.
+typing() {
+    local name=$1 line="type $2 /" result=
+    shift 2
+    while [ $# -gt 0 ]; do
+        line+=" $1"
+        result+="${result:+; }$2"
+        shift 2
+    done
+    call "$name" "$line" "$result"
+}
+typing_a() { typing "table A, $1" "${table_a[*]}" "${@:2}"; }
+
+# Document 01's sentences, tag by tag, with a look after each.
+typing_a 'no tags' open '0 put, sentence 0 0 0' 'look 2' '0 put, output 7 7, sentence 0 0 0' 'close 2' '0 put, output 7 7, sentence 0 0 1'
+typing_a 'typed 0' open '0 put, sentence 0 0 0' \
+    'give 0 2' '0 put, output 7 7, sentence 1 1 0' 'look 2' '1 put, output 0 7, sentence 1 1 0' \
+    'close 2' '1 put, output 0 7, sentence 1 1 1'
+typing_a 'typed 0 0 1 0 1' open '0 put, sentence 0 0 0' \
+    'give 0 3' '0 put, output 7 7 7, sentence 1 1 0' 'look 2' '1 put, output 0 7, sentence 1 1 0' \
+    'give 0 3' '1 put, output 0 7 7, sentence 1 2 0' 'look 2' '1 put, output 0 7, sentence 1 2 0' \
+    'give 1 3' '2 put, output 1 1 7, sentence 2 3 0' 'look 2' '0 put, output 7 7, sentence 2 3 0' \
+    'give 0 3' '1 put, output 0 7 7, sentence 2 4 0' 'look 2' '0 put, output 7 7, sentence 2 4 0' \
+    'give 1 3' '1 put, output 1 7 7, sentence 2 5 0' 'look 2' '0 put, output 7 7, sentence 2 5 0' \
+    'close 2' '0 put, output 7 7, sentence 2 5 1'
+# Book C's table
+table_c='30 05 00 08
+31 00 33 00 01 34 00 33 00 00 34 01 33 00 02 33 00 00 34 03 33 00 00 34 04
+31 00 33 00 01 34 00 33 00 03 33 00 02 33 00 00 34 03 33 00 00 34 04
+31 01 32 02 33 00 01 34 02 34 00 33 00 00 34 02 34 01 33 00 02 34 02 33 00 04 34 01 34 03 33 00 00 34 02 34 04
+31 01 32 02 33 00 05 34 02 34 00 33 00 05 34 02 34 01 33 00 03 34 02 33 00 06 34 01 34 03 33 00 05 34 02 34 04
+31 00 33 00 07 34 00 33 00 04 34 01 33 00 04 34 02 33 00 04 34 03 33 00 04 34 04
+31 00 33 00 05 34 00 33 00 05 34 01 33 00 03 33 00 05 34 03 33 00 05 34 04
+31 00 33 00 06 34 00 33 00 06 34 01 33 00 06 34 02 33 00 06 34 03 33 00 06 34 04
+31 00 33 00 07 34 00 33 00 06 34 02 33 00 04 34 02 33 00 04 34 03 33 00 04 34 04 00'
+table_c=${table_c//$'\n'/ }
+typing 'table C, typed 0 1 0 0' "$table_c" open '0 put, sentence 0 0 0' \
+    'give 0 3' '1 put, output 0 7 7, sentence 1 1 0' 'look 2' '0 put, output 7 7, sentence 1 1 0' \
+    'give 1 3' '0 put, output 7 7 7, sentence 3 2 0' 'look 2' '1 put, output 2 7, sentence 3 2 0' \
+    'give 0 3' '2 put, output 2 0 7, sentence 5 3 0' 'look 2' '0 put, output 7 7, sentence 5 3 0' \
+    'give 0 3' '1 put, output 0 7 7, sentence 5 4 0' 'close 2' '0 put, output 7 7, sentence 5 4 1'
+typing 'table C, typed 0 0 2 2 3 0' "$table_c" open '0 put, sentence 0 0 0' \
+    'give 0 3' '1 put, output 0 7 7, sentence 1 1 0' 'give 0 3' '1 put, output 0 7 7, sentence 1 2 0' \
+    'give 2 3' '0 put, output 7 7 7, sentence 2 3 0' 'look 2' '1 put, output 2 7, sentence 2 3 0' \
+    'give 2 3' '1 put, output 2 7 7, sentence 2 4 0' 'look 2' '1 put, output 2 7, sentence 2 4 0' \
+    'give 3 3' '2 put, output 1 3 7, sentence 4 5 0' 'look 2' '0 put, output 7 7, sentence 4 5 0' \
+    'give 0 3' '1 put, output 0 7 7, sentence 7 6 0' 'close 2' '0 put, output 7 7, sentence 7 6 1'
+typing 'table C, typed 4 2 0 1 3 0' "$table_c" open '0 put, sentence 0 0 0' \
+    'give 4 3' '1 put, output 4 7 7, sentence 0 1 0' \
+    'give 2 3' '0 put, output 7 7 7, sentence 2 2 0' 'look 2' '1 put, output 2 7, sentence 2 2 0' \
+    'give 0 3' '2 put, output 2 0 7, sentence 1 3 0' \
+    'give 1 3' '0 put, output 7 7 7, sentence 3 4 0' 'look 2' '1 put, output 2 7, sentence 3 4 0' \
+    'give 3 3' '2 put, output 1 3 7, sentence 6 5 0' \
+    'give 0 3' '1 put, output 0 7 7, sentence 6 6 0' 'close 2' '0 put, output 7 7, sentence 6 6 1'
+
+# Rooms: none where nothing is put out, one short, and exactly enough.
+typing_a 'rooms' open '0 put, sentence 0 0 0' 'look 0' '0 put, output, sentence 0 0 0' \
+    'give 0 0' '0 put, output, sentence 1 1 0' \
+    'look 0' 'refused 11, output, sentence 1 1 0' 'look 1' '1 put, output 0, sentence 1 1 0' \
+    'give 0 0' 'refused 11, output, sentence 1 1 0' 'give 0 1' '1 put, output 0, sentence 1 2 0' \
+    'give 1 1' 'refused 11, output 7, sentence 1 2 0' 'close 0' 'refused 11, output, sentence 1 2 0' \
+    'give 1 2' '2 put, output 1 1, sentence 2 3 0' 'close 0' '0 put, output, sentence 2 3 1'
+typing 'most held tags, typed' "$(ladder 80)" \
+    'set 80 90 0 give 1 80' "refused 11, output$(times 80 ' 7'), sentence 80 90 0" \
+    'give 1 81' "81 put, output$(times 80 ' 0') 1, sentence 0 91 0" \
+    'set 80 90 0 look 79' "refused 11, output$(times 79 ' 7'), sentence 80 90 0" \
+    'look 80' "80 put, output$(times 80 ' 0'), sentence 80 90 0" \
+    'close 79' "refused 11, output$(times 79 ' 7'), sentence 80 90 0" \
+    'close 82' "80 put, output$(times 80 ' 0') 7 7, sentence 80 90 1"
+
+# Tags
+typing_a 'tags not below K' open '0 put, sentence 0 0 0' 'give 0 2' '0 put, output 7 7, sentence 1 1 0' \
+    'give 2 2' 'refused 4, output 7 7, sentence 1 1 0' 'give 255 2' 'refused 4, output 7 7, sentence 1 1 0' \
+    'give 1 2' '2 put, output 1 1, sentence 2 2 0'
+typing 'identity, most tags, typed' "$(identity 48)" open '0 put, sentence 0 0 0' 'give 47 1' '1 put, output 47, sentence 0 1 0' \
+    'give 48 1' 'refused 4, output 7, sentence 0 1 0'
+
+# Closed: with any number but 0. A sentence may be opened again.
+typing_a 'closed' open '0 put, sentence 0 0 0' 'give 0 1' '0 put, output 7, sentence 1 1 0' 'close 1' '1 put, output 0, sentence 1 1 1' \
+    'close 1' 'refused 15, output 7, sentence 1 1 1' 'give 1 2' 'refused 15, output 7 7, sentence 1 1 1' \
+    'look 1' 'refused 15, output 7, sentence 1 1 1' open '0 put, sentence 0 0 0' 'give 1 1' '1 put, output 1, sentence 0 1 0'
+for closed in 2 7 256 4294967296 18446744073709551615; do
+    typing_a "closed $closed" "set 1 1 $closed give 1 2" "refused 15, output 7 7, sentence 1 1 $closed" \
+        'look 1' "refused 15, output 7, sentence 1 1 $closed" 'close 1' "refused 15, output 7, sentence 1 1 $closed" \
+        open '0 put, sentence 0 0 0'
+done
+
+# States: the last one, and numbers that are none
+typing_a 'the last state' 'set 2 9 0 give 0 1' '1 put, output 0, sentence 2 10 0' 'look 0' '0 put, output, sentence 2 10 0' \
+    'close 0' '0 put, output, sentence 2 10 1'
+typing 'most states, the last one' "$(row 256 256)" 'set 255 0 0 give 1 1' '1 put, output 1, sentence 255 1 0'
+typing 'most states, one more' "$(row 256 256)" 'set 256 0 0 give 1 1' 'refused 16, output 7, sentence 256 0 0'
+for state in 3 256 65535 65536 4294967297 18446744073709551615; do
+    typing_a "state $state" "set $state 9 0 give 0 2" "refused 16, output 7 7, sentence $state 9 0" \
+        'look 2' "refused 16, output 7 7, sentence $state 9 0" 'close 2' "refused 16, output 7 7, sentence $state 9 0"
+done
+
+# Given: 65,534 are one fewer than the most; looks and closes don't ask.
+typing_a '65,534 given' 'set 1 65534 0 give 1 2' '2 put, output 1 1, sentence 2 65535 0' \
+    'give 1 2' 'refused 13, output 7 7, sentence 2 65535 0' 'close 2' '0 put, output 7 7, sentence 2 65535 1'
+for given in 65535 65536 4294967296 18446744073709551615; do
+    typing_a "$given given" "set 1 $given 0 give 0 2" "refused 13, output 7 7, sentence 1 $given 0" \
+        'look 2' "1 put, output 0 7, sentence 1 $given 0" 'close 2' "1 put, output 0 7, sentence 1 $given 1"
+done
+
+# The order of refusals
+typing_a 'refusals in order' 'set 3 65535 1 give 2 0' 'refused 15, output, sentence 3 65535 1' \
+    'set 3 65535 0 give 2 0' 'refused 16, output, sentence 3 65535 0' 'set 1 65535 0 give 2 0' 'refused 13, output, sentence 1 65535 0' \
+    'set 1 65534 0 give 2 0' 'refused 4, output, sentence 1 65534 0' 'give 1 0' 'refused 11, output, sentence 1 65534 0' \
+    'set 3 65535 1 look 0' 'refused 15, output, sentence 3 65535 1' 'close 0' 'refused 15, output, sentence 3 65535 1' \
+    'set 3 65535 0 look 0' 'refused 16, output, sentence 3 65535 0' 'close 0' 'refused 16, output, sentence 3 65535 0' \
+    'set 1 65535 0 look 0' 'refused 11, output, sentence 1 65535 0' 'close 0' 'refused 11, output, sentence 1 65535 0'
+typing 'table A, one step unbalanced, typed' "$(a_with 8 00)" open 'refused 12, sentence 7 7 7' \
+    'set 3 65535 1 give 2 0' 'refused 12, output, sentence 3 65535 1' 'look 0' 'refused 12, output, sentence 3 65535 1' \
+    'close 0' 'refused 12, output, sentence 3 65535 1'
+typing 'no table, typed' '' open 'refused 12, sentence 7 7 7' 'give 2 0' 'refused 12, output, sentence 7 7 7' \
+    'look 0' 'refused 12, output, sentence 7 7 7' 'close 0' 'refused 12, output, sentence 7 7 7'
+
+# The table is damaged between two calls, far from the sentence's state, and repaired; and it becomes another table.
+typing_a 'damaged and repaired' open '0 put, sentence 0 0 0' 'give 0 2' '0 put, output 7 7, sentence 1 1 0' \
+    'byte 42 01 give 1 2' 'refused 12, output 7 7, sentence 1 1 0' 'look 2' 'refused 12, output 7 7, sentence 1 1 0' \
+    'close 2' 'refused 12, output 7 7, sentence 1 1 0' open 'refused 12, sentence 1 1 0' \
+    'byte 42 00 look 2' '1 put, output 0 7, sentence 1 1 0' 'give 1 2' '2 put, output 1 1, sentence 2 2 0'
+typing_a 'with another held tag' open '0 put, sentence 0 0 0' 'give 0 2' '0 put, output 7 7, sentence 1 1 0' \
+    'byte 17 01 look 2' '1 put, output 1 7, sentence 1 1 0' 'byte 17 00 close 2' '1 put, output 0 7, sentence 1 1 1'
