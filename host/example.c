@@ -1,16 +1,22 @@
-/* example [-c CEILING] [-e END] BOOK [TAG ...]: compiles the book in a file, loads the table once, and tags sentences with it. */
+/* example [-c CEILING] [-e END] BOOK [TAG ...]: compiles the book in a file, loads the table once, and tags sentences with it.
+   example [-c CEILING] [-e END] -t BOOK: compiles the book, and tags a sentence while it is typed on standard input. */
 #include <nedzsuka.h>
 
+#include <ctype.h>
 #include <errno.h>
 #include <inttypes.h>
 #include <stdio.h>
 #include <stdlib.h>
 #include <string.h>
 
-#define SYNOPSIS "usage: example [-c CEILING] [-e END] BOOK [TAG ...]\n"
+#define SYNOPSIS \
+    "usage: example [-c CEILING] [-e END] BOOK [TAG ...]\n" \
+    "       example [-c CEILING] [-e END] -t BOOK\n"
+#define NOT_A_TAG "not a tag, a number from 0 to 255"
 
-/* Exit statuses; every function of type int answers one, read_number excepted. */
+/* Exit statuses, the worse the greater; every function of type int answers one, those excepted that read a number or a word. */
 enum { DONE = 0, REFUSED = 1, FAILED = 2 };
+enum { LONGEST_WORD = 20 };
 
 static const char usage[] =
     SYNOPSIS
@@ -19,21 +25,27 @@ static const char usage[] =
     "Compiles a book of tag rules to its smallest table, and runs the table over a sentence,\n"
     "or over several that end with a tag.\n"
     "Prints the table's states and length, the result, and the number of changed tags.\n"
+    "With -t the sentence is typed on standard input, its tags with white space between, up to the\n"
+    "end of input. Prints after each tag what is certain so far, whatever is typed next, and what\n"
+    "closing the sentence now would add; in the end the result.\n"
     "\n"
     "  BOOK        a file with the raw bytes of a book, not text; nedzsuka.h says what they are\n"
     "  TAG ...     the sentence, each tag a number from 0 to 255; empty if there are none\n"
     "  -c CEILING  the most states that the table may have, 1 to 256; 256 if not given\n"
     "  -e END      the tag that ends a sentence; 255, which is none, if not given\n"
+    "  -t          the sentence is typed; a tag that is refused, or what isn't a tag, is told on\n"
+    "              standard error, and the sentence goes on as if it hadn't been typed\n"
     "\n"
     "Exit status:\n"
     "  0  a result\n"
-    "  1  a refusal, on standard error; standard output stays empty\n"
-    "  2  an error, on standard error: wrong arguments, a file that can't be read, output that\n"
-    "     can't be written, or too little memory\n";
+    "  1  a refusal, on standard error; standard output stays empty, unless it is of a typed tag\n"
+    "  2  an error, on standard error: wrong arguments, a file or input that can't be read, what\n"
+    "     was typed and isn't a tag, output that can't be written, or too little memory\n";
 
 /* What the arguments ask for. */
 struct request {
     uint64_t ceiling, end;
+    int typing;
     const char *book;
     char **tags;
     size_t count;
@@ -74,6 +86,10 @@ static int read_option(const char *option, const char *value, struct request *re
         return value != NULL && read_number(value, UINT8_MAX, &request->end)
                    ? DONE
                    : wrong_argument(option, "no number from 0 to 255 after it");
+    if (strcmp(option, "-t") == 0) {
+        request->typing = 1;
+        return DONE;
+    }
     return wrong_argument(option, "not an option here");
 }
 
@@ -83,7 +99,8 @@ static int read_arguments(int argc, char **argv, struct request *request)
 
     request->ceiling = NEDZSUKA_MOST_STATES;
     request->end = NEDZSUKA_NO_END;
-    for (; at < argc && argv[at][0] == '-'; at += 2)
+    request->typing = 0;
+    for (; at < argc && argv[at][0] == '-'; at += strcmp(argv[at], "-t") == 0 ? 1 : 2)
         if (read_option(argv[at], argv[at + 1], request) != DONE)
             return FAILED;
     if (at >= argc)
@@ -91,6 +108,8 @@ static int read_arguments(int argc, char **argv, struct request *request)
     request->book = argv[at];
     request->tags = argv + at + 1;
     request->count = (size_t)(argc - at - 1);
+    if (request->typing && request->count > 0)
+        return wrong_argument(request->tags[0], "no TAG with -t: they are typed on standard input");
     return DONE;
 }
 
@@ -114,7 +133,7 @@ static int read_sentence(const struct request *request, uint8_t *sentence)
 
     for (size_t i = 0; i < request->count; i++) {
         if (!read_number(request->tags[i], UINT8_MAX, &tag))
-            return wrong_argument(request->tags[i], "not a tag, a number from 0 to 255");
+            return wrong_argument(request->tags[i], NOT_A_TAG);
         sentence[i] = (uint8_t)tag;
     }
     return DONE;
@@ -174,12 +193,24 @@ static int close_output(void)
     return failed("standard output", errno != 0 ? strerror(errno) : "not written in full");
 }
 
-static int print_result(uint64_t states, size_t table_len, const uint8_t *result, size_t count, uint64_t changed)
+static void print_table(const uint8_t *table, size_t table_len)
 {
+    uint64_t states = nedzsuka_value(nedzsuka_read_table(table, table_len)) % 65536;
+
     printf("table: %" PRIu64 " state%s, %zu bytes\n", states, states == 1 ? "" : "s", table_len);
-    printf("result:");
+}
+
+static void print_tags(const char *what, const uint8_t *tags, size_t count)
+{
+    printf("%s:", what);
     for (size_t i = 0; i < count; i++)
-        printf(" %d", result[i]);
+        printf(" %d", tags[i]);
+}
+
+static int print_result(const uint8_t *table, size_t table_len, const uint8_t *result, size_t count, uint64_t changed)
+{
+    print_table(table, table_len);
+    print_tags("result", result, count);
     printf("\nchanged: %" PRIu64 "\n", changed);
     return close_output();
 }
@@ -198,11 +229,93 @@ static int tag_sentence(const uint8_t *table, size_t table_len, const uint8_t *s
     if (nedzsuka_refusal(answer) != NEDZSUKA_OK)
         status = refused(answer, NULL);
     else
-        status = print_result(nedzsuka_value(nedzsuka_read_table(table, table_len)) % 65536, table_len, result, count,
-                              nedzsuka_value(answer));
+        status = print_result(table, table_len, result, count, nedzsuka_value(answer));
     free(result);
     free(loaded);
     return status;
+}
+
+/* A typed sentence, and the tags that its gives have put out. There is room for all: together with what is held they are as many as were
+   taken. What a look or the close puts out stands behind them. */
+struct typing {
+    const uint8_t *table;
+    size_t table_len, certain;
+    struct nedzsuka_sentence sentence;
+    uint8_t tags[NEDZSUKA_LONGEST_SENTENCE];
+};
+
+/* The next word of standard input, if there is one. Of a longer one the rest becomes dots, so that it is no number. */
+static int read_word(char word[LONGEST_WORD + 4])
+{
+    size_t length = 0;
+    int c = getchar();
+
+    while (isspace(c))
+        c = getchar();
+    for (; c != EOF && !isspace(c); c = getchar(), length++)
+        if (length < LONGEST_WORD)
+            word[length] = c == '\0' ? '?' : (char)c;
+    strcpy(word + (length < LONGEST_WORD ? length : LONGEST_WORD), length > LONGEST_WORD ? "..." : "");
+    return length > 0;
+}
+
+/* Output is flushed: whoever types waits for it. */
+static int type_tag(struct typing *typing, const char *word)
+{
+    uint8_t *behind = typing->tags + typing->certain;
+    size_t room = sizeof typing->tags - typing->certain;
+    uint64_t tag, answer;
+
+    if (!read_number(word, UINT8_MAX, &tag))
+        return failed(word, NOT_A_TAG);
+    answer = nedzsuka_sentence_give(typing->table, typing->table_len, &typing->sentence, (uint8_t)tag, behind, room);
+    if (nedzsuka_refusal(answer) != NEDZSUKA_OK) {
+        fprintf(stderr, "%3" PRIu64 " -> ", tag);
+        return refused(answer, NULL);
+    }
+    behind += nedzsuka_value(answer);
+    room -= (size_t)nedzsuka_value(answer);
+    typing->certain = (size_t)(behind - typing->tags);
+    answer = nedzsuka_sentence_look(typing->table, typing->table_len, &typing->sentence, behind, room);
+    printf("%3" PRIu64 " -> ", tag);
+    print_tags("certain", typing->tags, typing->certain);
+    print_tags("; closing adds", behind, (size_t)nedzsuka_value(answer));
+    putchar('\n');
+    fflush(stdout);
+    return DONE;
+}
+
+static int close_typing(struct typing *typing)
+{
+    uint64_t answer = nedzsuka_sentence_close(typing->table, typing->table_len, &typing->sentence, typing->tags + typing->certain,
+                                              sizeof typing->tags - typing->certain);
+
+    print_tags("result", typing->tags, typing->certain + (size_t)nedzsuka_value(answer));
+    putchar('\n');
+    return close_output();
+}
+
+static int worse(int status, int other)
+{
+    return status > other ? status : other;
+}
+
+static int type_sentence(const uint8_t *table, size_t table_len)
+{
+    struct typing typing = {table, table_len, 0, {0, 0, 0}, {0}};
+    uint64_t answer = nedzsuka_sentence_open(table, table_len, &typing.sentence);
+    char word[LONGEST_WORD + 4];
+    int status = DONE;
+
+    if (nedzsuka_refusal(answer) != NEDZSUKA_OK)
+        return refused(answer, NULL);
+    print_table(table, table_len);
+    fflush(stdout);
+    while (!ferror(stdout) && read_word(word))
+        status = worse(status, type_tag(&typing, word));
+    if (ferror(stdin))
+        status = failed("standard input", strerror(errno));
+    return worse(status, close_typing(&typing));
 }
 
 static int run(const uint8_t *book, size_t book_len, const struct request *request, const uint8_t *sentence)
@@ -211,7 +324,9 @@ static int run(const uint8_t *book, size_t book_len, const struct request *reque
     uint64_t read = nedzsuka_read_book(book, book_len), answer = compile_book(book, book_len, read, request, &table);
     int status;
 
-    if (nedzsuka_refusal(answer) == NEDZSUKA_OK)
+    if (nedzsuka_refusal(answer) == NEDZSUKA_OK && request->typing)
+        status = type_sentence(table, (size_t)nedzsuka_value(answer));
+    else if (nedzsuka_refusal(answer) == NEDZSUKA_OK)
         status = tag_sentence(table, (size_t)nedzsuka_value(answer), sentence, request->count);
     else if (nedzsuka_refusal(answer) == NEDZSUKA_TOO_MANY_STATES)
         status = refused(answer, "rule");
