@@ -15,7 +15,7 @@
 #include "sentences.h"
 
 enum { LIBRARY, PLAIN, BOTH };
-enum call { COMPILE, RUN_BOOK, RUN_TABLE, LOAD, RUN_LOADED };
+enum call { COMPILE, RUN_BOOK, RUN_TABLE, LOAD, RUN_LOADED, RUN_TAG, GIVE, LOOK };
 enum { PASSES = 8, ROUNDS = 6, MOST_TIMES = 100000, MOST_BOOKS = 64, NAME = 48 };
 
 struct workload {
@@ -36,6 +36,13 @@ static const struct workload beside[] = {
     {"loaded 20", RUN_LOADED, RANDOM, OF_20},
     {"loaded 65,535", RUN_LOADED, RANDOM, OF_65535},
 };
+/* What an editor pays for one tag: the run of the table over a sentence of one, a give and a look. */
+enum { ONE_RUN, ONE_GIVE, ONE_LOOK, TYPING };
+static const struct workload typing[TYPING] = {
+    [ONE_RUN] = {"table 1", RUN_TAG, RANDOM, OF_20},
+    [ONE_GIVE] = {"give", GIVE, RANDOM, OF_20},
+    [ONE_LOOK] = {"look", LOOK, RANDOM, OF_20},
+};
 /* What is timed of the library alone: each of these with each length, with sentences in which rules fire and in which none does. */
 static const enum call runs[] = {RUN_BOOK, RUN_TABLE, RUN_LOADED};
 enum { BESIDE = sizeof beside / sizeof *beside, RUNS = sizeof runs / sizeof *runs };
@@ -46,7 +53,7 @@ struct figures {
     size_t book_len;
     uint64_t ceiling;
     int states;
-    double beside[BESIDE][BOTH], alone[KINDS][LENGTHS][RUNS];
+    double beside[BESIDE][BOTH], typing[TYPING][BOTH], alone[KINDS][LENGTHS][RUNS];
     double fresh, again; /* a compile whose work slice is fresh memory, and the next one */
 };
 
@@ -65,6 +72,18 @@ static double now(void)
     return (double)t.tv_sec + (double)t.tv_nsec * 1e-9;
 }
 
+/* A give or a look, in the table's last state. */
+static uint64_t type(int which, enum call call, uint8_t tag)
+{
+    struct nedzsuka_sentence typed = {(uint64_t)timed->states - 1, 0, 0};
+
+    if (call == GIVE)
+        return (which == LIBRARY ? nedzsuka_give : plain_give)(table, table_len, &typed.state, &typed.given, &typed.closed, tag,
+                                                               out[which], NEDZSUKA_MOST_PUT);
+    return (which == LIBRARY ? nedzsuka_look : plain_look)(table, table_len, typed.state, typed.given, typed.closed, out[which],
+                                                           NEDZSUKA_MOST_HELD);
+}
+
 static uint64_t call(int which, const struct workload *load)
 {
     const uint8_t *sentence = sentences.tags[load->kind][load->length];
@@ -78,6 +97,11 @@ static uint64_t call(int which, const struct workload *load)
         return (which == LIBRARY ? nedzsuka_run_book : plain_run_book)(timed->book, timed->book_len, sentence, tags, out[which], tags);
     case RUN_TABLE:
         return (which == LIBRARY ? nedzsuka_run_table : plain_run_table)(table, table_len, sentence, tags, out[which], tags);
+    case RUN_TAG:
+        return (which == LIBRARY ? nedzsuka_run_table : plain_run_table)(table, table_len, sentence, 1, out[which], 1);
+    case GIVE:
+    case LOOK:
+        return type(which, load->call, sentence[0]);
     case LOAD:
         return (which == LIBRARY ? nedzsuka_load_table : plain_load_table)(table, table_len, loaded_out[which], table_len);
     default:
@@ -131,7 +155,18 @@ static void measure(const struct workload *load, double *seconds, int both)
 
 static int needs_table(const struct workload *load)
 {
-    return load->call == RUN_TABLE || load->call == LOAD || load->call == RUN_LOADED;
+    return load->call != COMPILE && load->call != RUN_BOOK;
+}
+
+/* Random sentences, each call beside plain C. */
+static void measure_beside(const struct figures *f, const struct workload *loads, int count, double (*seconds)[BOTH])
+{
+    for (int i = 0; i < count; i++) {
+        if (f->states == 0 && needs_table(&loads[i]))
+            continue;
+        agree(f->name, &loads[i]);
+        measure(&loads[i], seconds[i], BOTH);
+    }
 }
 
 static void measure_alone(struct figures *f, enum kind kind)
@@ -175,12 +210,8 @@ static void bench(struct figures *f)
     table_len = (size_t)nedzsuka_value(answer);
     loaded_len = (size_t)nedzsuka_value(plain_load_table(table, f->states == 0 ? 0 : table_len, loaded, table_len));
     make_sentences(f->book, &sentences);
-    for (int i = 0; i < BESIDE; i++) {
-        if (f->states == 0 && needs_table(&beside[i]))
-            continue;
-        agree(f->name, &beside[i]);
-        measure(&beside[i], f->beside[i], BOTH);
-    }
+    measure_beside(f, beside, BESIDE, f->beside);
+    measure_beside(f, typing, TYPING, f->typing);
     measure_alone(f, FIRING);
     measure_alone(f, QUIET);
     measure_fresh(f);
@@ -221,13 +252,18 @@ static void print_figure(double figure, int decimals)
         printf(" %13.*f", decimals, figure);
 }
 
+static double ratio(const double *seconds)
+{
+    return seconds[PLAIN] == 0 ? 0 : seconds[LIBRARY] / seconds[PLAIN];
+}
+
 static void print_beside(const struct figures *figures, int books)
 {
     print_heading("time of the library / time of plain C");
     for (int b = 0; b < books; b++) {
         printf("%-42s %6d", figures[b].name, figures[b].states);
         for (int i = 0; i < BESIDE; i++)
-            print_figure(figures[b].beside[i][PLAIN] == 0 ? 0 : figures[b].beside[i][LIBRARY] / figures[b].beside[i][PLAIN], 2);
+            print_figure(ratio(figures[b].beside[i]), 2);
         printf("\n");
     }
     printf("\n");
@@ -236,6 +272,21 @@ static void print_beside(const struct figures *figures, int books)
         printf("%-42s %6d", figures[b].name, figures[b].states);
         for (int i = 0; i < BESIDE; i++)
             print_figure(figures[b].beside[i][LIBRARY] * 1e6, 2);
+        printf("\n");
+    }
+}
+
+static void print_typing(const struct figures *figures, int books)
+{
+    printf("\n%-42s %6s", "nanoseconds for a typed tag", "states");
+    for (int i = 0; i < TYPING; i++)
+        printf(" %13s", typing[i].heading);
+    printf(" %13s\n", "give / C");
+    for (int b = 0; b < books; b++) {
+        printf("%-42s %6d", figures[b].name, figures[b].states);
+        for (int i = 0; i < TYPING; i++)
+            print_figure(figures[b].typing[i][LIBRARY] * 1e9, 0);
+        print_figure(ratio(figures[b].typing[ONE_GIVE]), 2);
         printf("\n");
     }
 }
@@ -277,6 +328,7 @@ int main(void)
         for (int b = 0; b < books; b++)
             bench(&figures[b]);
     print_beside(figures, books);
+    print_typing(figures, books);
     print_alone(figures, books);
     print_fresh(figures, books);
     free(work);

@@ -214,6 +214,57 @@ uint64_t plain_run_table(const uint8_t *t, size_t table_len, const uint8_t *s, s
     return differences(s, out, n) * 256;
 }
 
+/* ---- Typed sentences ---- */
+
+static int bad_typed(const uint8_t *t, size_t table_len, uint64_t state, uint64_t closed, struct places *p)
+{
+    int refusal = read_table(t, table_len, p);
+
+    if (refusal)
+        return refusal;
+    if (closed != 0)
+        return 15;
+    return state < (uint64_t)(t[2] * 256 + t[3]) ? 0 : 16;
+}
+
+uint64_t plain_give(const uint8_t *t, size_t table_len, uint64_t *state, uint64_t *given, uint64_t *closed, uint8_t tag, uint8_t *out,
+                    size_t out_len)
+{
+    struct places p;
+    struct place step;
+    int refusal = bad_typed(t, table_len, *state, *closed, &p);
+
+    if (refusal)
+        return (uint64_t)refusal;
+    if (*given >= 65535)
+        return 13;
+    if (tag >= t[1])
+        return 4;
+    step = p.step[*state * 48 + tag];
+    if (out_len < step.count)
+        return 11;
+    for (size_t j = 0; j < step.count; j++)
+        out[j] = t[step.out + 2 * j + 1];
+    *state = step.next;
+    ++*given;
+    return step.count * 256u;
+}
+
+uint64_t plain_look(const uint8_t *t, size_t table_len, uint64_t state, uint64_t given, uint64_t closed, uint8_t *out, size_t out_len)
+{
+    struct places p;
+    int refusal = bad_typed(t, table_len, state, closed, &p);
+
+    (void)given;
+    if (refusal)
+        return (uint64_t)refusal;
+    if (out_len < p.held[state])
+        return 11;
+    for (size_t j = 0; j < p.held[state]; j++)
+        out[j] = t[p.final[state] + 2 * j + 1];
+    return p.held[state] * 256u;
+}
+
 /* ---- Loaded tables ---- */
 
 #define RESTING 0xffffffffu

@@ -11,6 +11,10 @@ uint64_t plain_run_book(const uint8_t *book, size_t book_len, const uint8_t *sen
                         size_t out_len);
 uint64_t plain_run_table(const uint8_t *table, size_t table_len, const uint8_t *sentence, size_t sentence_len, uint8_t *out,
                          size_t out_len);
+uint64_t plain_give(const uint8_t *table, size_t table_len, uint64_t *state, uint64_t *given, uint64_t *closed, uint8_t tag,
+                    uint8_t *out, size_t out_len);
+uint64_t plain_look(const uint8_t *table, size_t table_len, uint64_t state, uint64_t given, uint64_t closed, uint8_t *out,
+                    size_t out_len);
 uint64_t plain_load_table(const uint8_t *table, size_t table_len, uint32_t *loaded, size_t loaded_len);
 uint64_t plain_run_loaded(const uint32_t *loaded, size_t loaded_len, const uint8_t *sentence, size_t sentence_len, uint8_t *out,
                           size_t out_len);
