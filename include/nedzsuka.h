@@ -210,13 +210,14 @@ uint64_t nedzsuka_run_loaded(const uint32_t *loaded, size_t loaded_len, const ui
 /* Opens a sentence over a table, to be typed tag by tag, and answers 0.
 
    A typed sentence is three numbers that the host keeps: the table's state, how many tags were given, and whether it is closed, 0 for
-   open and any other number for closed. This call sets them to 0, 0 and 0. Over one table, from an opening on and whatever looks and
-   refused calls lie between, what the gives put out and then the close, joined, is what nedzsuka_run_table makes of the tags taken. What
-   was put out is certain: no further tag changes it. No count of changed tags is given here.
+   open and any other number for closed. This call sets them to 0, 0 and 0. From an opening on, over one table, each call being given
+   the numbers that the one before has left: what the gives put out and what the close then puts out, joined, is what nedzsuka_run_table
+   makes of the tags taken, whatever looks and refused calls lie between. So what was put out is certain, whatever is typed next. Changed
+   tags are not counted.
 
-   The numbers may hold any values, and another table may be given: each call answers for what it gets. It reads the whole table for
-   that, as nedzsuka_run_table does, so it costs the table's bytes, whatever was typed before. For sentences that are finished load the
-   table instead.
+   The numbers may hold any values, and the table may be another one at each call: a call answers for what it gets. It reads the whole
+   table, as nedzsuka_run_table does, and costs the table's bytes, however long the sentence is. A host with many finished sentences loads
+   the table instead.
 
    Refusal: 12, the table is not well formed. */
 uint64_t nedzsuka_open(const uint8_t *table, size_t table_len, uint64_t *state, uint64_t *given, uint64_t *closed);
@@ -227,7 +228,7 @@ uint64_t nedzsuka_open(const uint8_t *table, size_t table_len, uint64_t *state, 
    Refusals, in this order:
    - 12: the table is not well formed.
    - 15: closed is not 0.
-   - 16: the state is not below the table's S. Over one table it never is, from an opening on.
+   - 16: the state is not below the table's S. From an opening on, over one table, this is never given.
    - 13: given is 65,535 or more.
    - 4: the tag is not below the table's K.
    - 11: out_len is below the number of tags that the step puts out. A step that puts out none asks for no room. */
