@@ -13,9 +13,9 @@ pub enum RunAnswer {
     Refused(Refusal),
 }
 
-// Of loading a table: how many numbers were written.
-pub enum LoadAnswer {
-    Loaded(usize),
+// Of a call that writes to its output slice, loading a table or typing: how many numbers were written.
+pub enum WriteAnswer {
+    Written(usize),
     Refused(Refusal),
 }
 

@@ -12,9 +12,9 @@ use Rattle.limits.specs.Limits.{fewest-tags, most-tags}
 use Rattle.words.specs.Word.{Below}
 use Rattle.answers.specs.Outcome.{Outcome, result, refused, nothing, andThen, provided}
 use Rattle.answers.specs.Slice.{fitting}
-use Rattle.answers.specs.Answer.{loadOutcome}
-use Rattle.answers.specs.declared.LoadAnswer.{LoadAnswer}
-use Rattle.answers.specs.declared.LoadAnswer.the-variants.{Loaded}
+use Rattle.answers.specs.Answer.{writeOutcome}
+use Rattle.answers.specs.declared.WriteAnswer.{WriteAnswer}
+use Rattle.answers.specs.declared.WriteAnswer.the-variants.{Written}
 use Rattle.answers.proofs.Outcome.{passed, went}
 use Rattle.answers.proofs.Slice.{front-result}
 use Rattle.sentences.specs.Run.{highest, admitted, run}
@@ -97,11 +97,11 @@ module _ (table : List ℕ) where
 
 -- ---- the call
 
-module _ (table before after : List ℕ) (answer : LoadAnswer) (call : LoadRan table before after answer) where
-  written-is : (n : ℕ) → answer ≡ Loaded n → loadAnswer table (length before) ≡ result (take n after)
-  written-is n e = front-result n before after (loadAnswer table (length before)) (ap loadOutcome (sym e) ∙ call .answered) (call .wrote)
+module _ (table before after : List ℕ) (answer : WriteAnswer) (call : LoadRan table before after answer) where
+  written-is : (n : ℕ) → answer ≡ Written n → loadAnswer table (length before) ≡ result (take n after)
+  written-is n e = front-result n before after (loadAnswer table (length before)) (ap writeOutcome (sym e) ∙ call .answered) (call .wrote)
 
   -- the first n numbers run as the table
-  pub call-runs : Below 0x100 table → (n : ℕ) → answer ≡ Loaded n
+  pub call-runs : Below 0x100 table → (n : ℕ) → answer ≡ Written n
       → (tail sentence : List ℕ) (out : ℕ) → loadedRun (take n after ++ tail) sentence out ≡ tableRun table sentence out
   call-runs bytes n e = runs-as-table table bytes (length before) (take n after) (written-is n e)

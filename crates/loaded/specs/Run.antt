@@ -8,8 +8,8 @@ use lib.ListN.{length, take, drop, getD}
 use Rattle.limits.specs.Limits.{fewest-tags, most-tags}
 use Rattle.answers.specs.Outcome.{Outcome, result, andThen, provided}
 use Rattle.answers.specs.Slice.{fitting, longOf, written}
-use Rattle.answers.specs.Answer.{loadOutcome}
-use Rattle.answers.specs.declared.LoadAnswer.{LoadAnswer}
+use Rattle.answers.specs.Answer.{Filled}
+use Rattle.answers.specs.declared.WriteAnswer.{WriteAnswer}
 use Rattle.sentences.specs.Run.{highest, admitted}
 use Rattle.tables.specs.Decode.{decode}
 use Rattle.loaded.specs.Numbers.{rowSize, resting, numbers}
@@ -55,6 +55,5 @@ abbrev pub loadAnswer : List ℕ → ℕ → Outcome (List ℕ)
 loadAnswer bytes room = andThen (decode bytes) (λ d. fitting room (numbers (d .tags) (d .table)))
 
 -- loading has ended: the answer, and the numbers at exit
-pub record LoadRan (bytes before after : List ℕ) (answer : LoadAnswer) : Type 0 where
-  pub answered : loadOutcome answer ≡ longOf (loadAnswer bytes (length before))
-  pub wrote : after ≡ written (loadAnswer bytes (length before)) before
+abbrev pub LoadRan : List ℕ → List ℕ → List ℕ → WriteAnswer → Type 0
+LoadRan bytes before after answer = Filled (loadAnswer bytes (length before)) before after answer

@@ -13,9 +13,9 @@ use Rattle.words.proofs.Word.{below-drop}
 use Rattle.words.proofs.Regions.{sets-more, sets-sets}
 use Rattle.answers.specs.Outcome.{Outcome, result, refused, nothing, andThen, provided}
 use Rattle.answers.specs.Slice.{fitting}
-use Rattle.answers.specs.Answer.{loadOutcome}
-use Rattle.answers.specs.declared.LoadAnswer.{LoadAnswer}
-use Rattle.answers.specs.declared.LoadAnswer.the-variants.{Loaded as Load}
+use Rattle.answers.specs.Answer.{writeOutcome}
+use Rattle.answers.specs.declared.WriteAnswer.{WriteAnswer}
+use Rattle.answers.specs.declared.WriteAnswer.the-variants.{Written as Load}
 use Rattle.transducers.specs.Table.{Table}
 use Rattle.tables.specs.Bytes.{joined, encode}
 use Rattle.tables.specs.Decode.{Decoded, decode, malformed}
@@ -36,13 +36,13 @@ not-loaded bs k ix false h e = h
 not-loaded bs k ix true h e = let z : _≡_ {A = ℕ} 0 1 = cc in absurd (omega arith)
 
 -- the table is not well formed
-pub load-malformed : (bs : List ℕ) (k : ℕ) (ix : List ℕ) (b : Bool) → LoadedIf b bs k ix → b ≡ false → (before : List ℕ) (r : LoadAnswer)
-    → loadOutcome r ≡ refused 12 nothing → LoadRan bs before before r
+pub load-malformed : (bs : List ℕ) (k : ℕ) (ix : List ℕ) (b : Bool) → LoadedIf b bs k ix → b ≡ false → (before : List ℕ) (r : WriteAnswer)
+    → writeOutcome r ≡ refused 12 nothing → LoadRan bs before before r
 load-malformed bs k ix b h e before r f =
     let d : decode bs ≡ malformed = not-loaded bs k ix b h e in
     record { answered = cc (d, f); wrote = cc (d) }
 
-pub head-malformed : (bs before : List ℕ) (r : LoadAnswer) → decode bs ≡ malformed → loadOutcome r ≡ refused 12 nothing → LoadRan bs before before r
+pub head-malformed : (bs before : List ℕ) (r : WriteAnswer) → decode bs ≡ malformed → writeOutcome r ≡ refused 12 nothing → LoadRan bs before before r
 head-malformed bs before r d f = record { answered = cc (d, f); wrote = cc (d) }
 
 module _ (bs ix : List ℕ) (k s : ℕ) (head : Head bs k s) (bytes : Below 0x100 bs) (l : Loaded bs k ix) where
@@ -70,7 +70,7 @@ module _ (bs ix : List ℕ) (k s : ℕ) (head : Head bs k s) (bytes : Below 0x10
       ∙ ap (λ (x : Bool). provided 11 x (result ns)) e
 
   -- the slice is too short
-  pub load-short : (before : List ℕ) → length before < length ns → (r : LoadAnswer) → loadOutcome r ≡ refused 11 nothing → LoadRan bs before before r
+  pub load-short : (before : List ℕ) → length before < length ns → (r : WriteAnswer) → writeOutcome r ≡ refused 11 nothing → LoadRan bs before before r
   load-short before h r f =
       let o = loads before false (lt-leb (length ns) (length before) h) in
       record { answered = cc (o, f); wrote = cc (o) }

@@ -1,7 +1,7 @@
 // Loading a table: its numbers to the front of a slice. The table is read into an index, and its numbers are written from the index row by row,
 // the tags of longer words behind the rows. Time O(b) for b bytes; space is the index.
-use answers::LoadAnswer;
 use answers::Refusal;
+use answers::WriteAnswer;
 use decoder::TableAnswer;
 use steps::base_of;
 use steps::count_of;
@@ -293,19 +293,19 @@ fn load_within(
     s: usize,
     loaded: &mut [u32],
     index: &mut [u64],
-) -> LoadAnswer
+) -> WriteAnswer
     requires { ⌜ Head (now table) k s × (s * (k + 1) ≤ length (now index)) ⌝ }
     ensures { λ r. ⌜ LoadRan (now (table .entry)) (now (loaded .entry)) (now (loaded .exit)) r ⌝ }
 {
     if !decoder::load(table, k, s, index) {
-        return LoadAnswer::Refused(Refusal::Bare { number: 12 });
+        return WriteAnswer::Refused(Refusal::Bare { number: 12 });
     }
     if !fits(index, k, s, table.len(), loaded.len()) {
-        return LoadAnswer::Refused(Refusal::Bare { number: 11 });
+        return WriteAnswer::Refused(Refusal::Bare { number: 11 });
     }
     let rested = first_resting(index, k, s);
     loaded[0] = first_number(k);
-    LoadAnswer::Loaded(write_rows(table, index, k, s, rested, loaded))
+    WriteAnswer::Written(write_rows(table, index, k, s, rested, loaded))
 }
 
 // An index is cleared for each call: small tables have a small one.
@@ -315,7 +315,7 @@ const MIDDLE: usize = 1024;
 
 const BIG: usize = 4096;
 
-fn load_small(table: &[u8], k: usize, s: usize, loaded: &mut [u32]) -> LoadAnswer
+fn load_small(table: &[u8], k: usize, s: usize, loaded: &mut [u32]) -> WriteAnswer
     requires { ⌜ Head (now table) k s × (s * (k + 1) ≤ 192) ⌝ }
     ensures { λ r. ⌜ LoadRan (now (table .entry)) (now (loaded .entry)) (now (loaded .exit)) r ⌝ }
 {
@@ -323,7 +323,7 @@ fn load_small(table: &[u8], k: usize, s: usize, loaded: &mut [u32]) -> LoadAnswe
     load_within(table, k, s, loaded, &mut index)
 }
 
-fn load_middle(table: &[u8], k: usize, s: usize, loaded: &mut [u32]) -> LoadAnswer
+fn load_middle(table: &[u8], k: usize, s: usize, loaded: &mut [u32]) -> WriteAnswer
     requires { ⌜ Head (now table) k s × (s * (k + 1) ≤ 1024) ⌝ }
     ensures { λ r. ⌜ LoadRan (now (table .entry)) (now (loaded .entry)) (now (loaded .exit)) r ⌝ }
 {
@@ -331,7 +331,7 @@ fn load_middle(table: &[u8], k: usize, s: usize, loaded: &mut [u32]) -> LoadAnsw
     load_within(table, k, s, loaded, &mut index)
 }
 
-fn load_big(table: &[u8], k: usize, s: usize, loaded: &mut [u32]) -> LoadAnswer
+fn load_big(table: &[u8], k: usize, s: usize, loaded: &mut [u32]) -> WriteAnswer
     requires { ⌜ Head (now table) k s × (s * (k + 1) ≤ 4096) ⌝ }
     ensures { λ r. ⌜ LoadRan (now (table .entry)) (now (loaded .entry)) (now (loaded .exit)) r ⌝ }
 {
@@ -339,7 +339,7 @@ fn load_big(table: &[u8], k: usize, s: usize, loaded: &mut [u32]) -> LoadAnswer
     load_within(table, k, s, loaded, &mut index)
 }
 
-fn load_large(table: &[u8], k: usize, s: usize, loaded: &mut [u32]) -> LoadAnswer
+fn load_large(table: &[u8], k: usize, s: usize, loaded: &mut [u32]) -> WriteAnswer
     requires { ⌜ Head (now table) k s × (s * (k + 1) ≤ most-states * (most-tags + 1)) ⌝ }
     ensures { λ r. ⌜ LoadRan (now (table .entry)) (now (loaded .entry)) (now (loaded .exit)) r ⌝ }
 {
@@ -349,7 +349,7 @@ fn load_large(table: &[u8], k: usize, s: usize, loaded: &mut [u32]) -> LoadAnswe
 
 // A table that needs more than the small index. The function calls itself in a branch that is never taken: so the compiler keeps it, and
 // each larger index, in a frame of its own.
-fn load_beyond(table: &[u8], k: usize, s: usize, loaded: &mut [u32]) -> LoadAnswer
+fn load_beyond(table: &[u8], k: usize, s: usize, loaded: &mut [u32]) -> WriteAnswer
     requires { ⌜ Head (now table) k s ⌝ }
     ensures { λ r. ⌜ LoadRan (now (table .entry)) (now (loaded .entry)) (now (loaded .exit)) r ⌝ }
 {
@@ -367,12 +367,12 @@ fn load_beyond(table: &[u8], k: usize, s: usize, loaded: &mut [u32]) -> LoadAnsw
 }
 
 // Loads a table: how many numbers were written to the front of the slice, or 12, or 11 if it is too short.
-pub fn load_table(table: &[u8], loaded: &mut [u32]) -> LoadAnswer
+pub fn load_table(table: &[u8], loaded: &mut [u32]) -> WriteAnswer
     ensures { λ r. ⌜ LoadRan (now (table .entry)) (now (loaded .entry)) (now (loaded .exit)) r ⌝ }
 {
     let got = decoder::read_head(table);
     let TableAnswer::Table { tags, states } = got else {
-        return LoadAnswer::Refused(Refusal::Bare { number: 12 });
+        return WriteAnswer::Refused(Refusal::Bare { number: 12 });
     };
     if decoder::entries(tags, states) <= SMALL {
         return load_small(table, tags, states, loaded);

@@ -1,2 +1,3 @@
--- What reading a book or a table answers to C.
+-- What reading a book or a table answers to C, and an open sentence as C has it.
 pub mod Sizes
+pub mod Typing

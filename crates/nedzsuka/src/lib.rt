@@ -1,27 +1,34 @@
 // The functions for C (document 01, "host door"): compile and the run of a book, both also with an end tag, the runs of a table and of a
-// loaded one, loading and the two readers, each answering one number.
+// loaded one, loading, the two readers and typing, each answering one number.
 // include/nedzsuka.h tells a host what they promise.
+use answers::WriteAnswer;
 use books::BookAnswer;
 use decoder::TableAnswer;
 use packing::pack;
 use packing::pack_byte;
 use packing::pack_compile;
-use packing::pack_load;
 use packing::pack_refusal;
 use packing::pack_run;
+use packing::pack_written;
+use typing::Opened;
+use typing::Sentence;
+use typing::Typed;
 use words::wide;
 ghost use mathlib.Core.Path.{_≡_};
 ghost use lib.ListN.{length};
 ghost use Rattle.limits.specs.Limits.{no-end};
 ghost use Rattle.answers.specs.Slice.{longOf, written};
+ghost use Rattle.answers.specs.Answer.{writeOutcome};
 ghost use Rattle.sentences.specs.Run.{changed};
 ghost use Rattle.tagger.specs.Run.{bookRun};
 ghost use Rattle.tables.specs.Run.{tableRun};
 ghost use Rattle.loaded.specs.Run.{loadedRun, loadAnswer};
 ghost use Rattle.compilation.specs.Compile.{tested, compileAnswer};
 ghost use Rattle.compiler.specs.Answer.{worked};
-ghost use Rattle.packing.specs.Packed.{packed, packedByte};
+ghost use Rattle.packing.specs.Packed.{packed, packedByte, Legible};
+ghost use Rattle.typing.specs.Typing.{opened, give, look, close};
 ghost use Rattle.nedzsuka.specs.Sizes.{bookSizes, tableSizes};
+ghost use Rattle.nedzsuka.specs.Typing.{sentenceOf, flag, handedOn, openedAs, openedOn, TypeCall};
 
 // compiler::compile_ending: the number of the table's bytes, or the refusal.
 #[no_mangle]
@@ -97,7 +104,7 @@ pub extern "C" fn nedzsuka_load_table(table: &[u8], loaded: &mut [u32]) -> u64
     ensures loaded { λ r. ⌜ now (loaded .exit) ≡ written (loadAnswer (now (table .entry)) (length (now (loaded .entry)))) (now (loaded .entry)) ⌝ }
 {
     let answer = loader::load_table(table, loaded);
-    pack_load(answer)
+    pack_written(answer)
 }
 
 // walker::run_loaded: the number of changed tags, or the refusal.
@@ -130,4 +137,113 @@ pub extern "C" fn nedzsuka_read_table(table: &[u8]) -> u64
         TableAnswer::Table { tags, states } => pack(tags * 65536 + states, 0),
         TableAnswer::Refused(given) => pack_refusal(given),
     }
+}
+
+// The sentence that three numbers are.
+fn sentence_of(state: u64, given: u64, closed: u64) -> Sentence
+    ensures { λ r. ⌜ r ≡ sentenceOf (record { state = state; given = given; closed = closed }) ⌝ }
+{
+    Sentence {
+        state: state as usize,
+        given: given as usize,
+        closed: closed != 0,
+    }
+}
+
+// Whether a sentence is closed, as a number.
+fn flag_of(closed: bool) -> u64
+    ensures { λ r. ⌜ r ≡ flag closed ⌝ }
+{
+    if closed {
+        return 1;
+    }
+    0
+}
+
+// The answer as a number, and the three numbers of the sentence that is handed back; on a refusal they stay.
+fn hand_on(typed: Typed, state: &mut u64, given: &mut u64, closed: &mut u64) -> u64
+    requires { ⌜ Legible (writeOutcome (typed .answer)) ⌝ }
+    ensures answer { λ r. ⌜ r ≡ packed (writeOutcome (typed .answer)) ⌝ }
+    ensures numbers { λ r. ⌜ (record { state = now (state .exit); given = now (given .exit); closed = now (closed .exit) }) ≡ handedOn (writeOutcome (typed .answer)) (typed .sentence) (record { state = now (state .entry); given = now (given .entry); closed = now (closed .entry) }) ⌝ }
+{
+    let answer = typed.answer;
+    let WriteAnswer::Written(_) = answer else {
+        return pack_written(answer);
+    };
+    let sentence = typed.sentence;
+    *state = sentence.state as u64;
+    *given = sentence.given as u64;
+    *closed = flag_of(sentence.closed);
+    pack_written(answer)
+}
+
+// Sentence::open: 0, or 12.
+#[no_mangle]
+pub extern "C" fn nedzsuka_open(
+    table: &[u8],
+    state: &mut u64,
+    given: &mut u64,
+    closed: &mut u64,
+) -> u64
+    ensures answer { λ r. ⌜ r ≡ packed (openedAs (opened (now (table .entry)))) ⌝ }
+    ensures numbers { λ r. ⌜ (record { state = now (state .exit); given = now (given .exit); closed = now (closed .exit) }) ≡ openedOn (opened (now (table .entry))) (record { state = now (state .entry); given = now (given .entry); closed = now (closed .entry) }) ⌝ }
+{
+    match Sentence::open(table) {
+        Opened::Open(sentence) => {
+            let answer = WriteAnswer::Written(0);
+            hand_on(Typed { sentence, answer }, state, given, closed)
+        }
+        Opened::Refused(refusal) => pack_refusal(refusal),
+    }
+}
+
+// Sentence::give: the number of tags put out, or the refusal.
+#[no_mangle]
+pub extern "C" fn nedzsuka_give(
+    table: &[u8],
+    state: &mut u64,
+    given: &mut u64,
+    closed: &mut u64,
+    tag: u8,
+    out: &mut [u8],
+) -> u64
+    ensures { λ r. ⌜ TypeCall (give (now (table .entry)) (sentenceOf (record { state = now (state .entry); given = now (given .entry); closed = now (closed .entry) })) tag (length (now (out .entry)))) (record { state = now (state .entry); given = now (given .entry); closed = now (closed .entry) }) (record { state = now (state .exit); given = now (given .exit); closed = now (closed .exit) }) (now (out .entry)) (now (out .exit)) r ⌝ }
+{
+    let sentence = sentence_of(*state, *given, *closed);
+    let typed = sentence.give(table, tag, out);
+    hand_on(typed, state, given, closed)
+}
+
+// Sentence::look: the number of tags that closing would put out, or the refusal.
+#[no_mangle]
+pub extern "C" fn nedzsuka_look(
+    table: &[u8],
+    state: u64,
+    given: u64,
+    closed: u64,
+    out: &mut [u8],
+) -> u64
+    ensures answer { λ r. ⌜ r ≡ packed (longOf (look (now (table .entry)) (sentenceOf (record { state = state; given = given; closed = closed })) (length (now (out .entry))) .put)) ⌝ }
+    ensures out { λ r. ⌜ now (out .exit) ≡ written (look (now (table .entry)) (sentenceOf (record { state = state; given = given; closed = closed })) (length (now (out .entry))) .put) (now (out .entry)) ⌝ }
+{
+    let sentence = sentence_of(state, given, closed);
+    let typed = sentence.look(table, out);
+    let answer = typed.answer;
+    pack_written(answer)
+}
+
+// Sentence::close: the number of tags put out, or the refusal.
+#[no_mangle]
+pub extern "C" fn nedzsuka_close(
+    table: &[u8],
+    state: &mut u64,
+    given: &mut u64,
+    closed: &mut u64,
+    out: &mut [u8],
+) -> u64
+    ensures { λ r. ⌜ TypeCall (close (now (table .entry)) (sentenceOf (record { state = now (state .entry); given = now (given .entry); closed = now (closed .entry) })) (length (now (out .entry)))) (record { state = now (state .entry); given = now (given .entry); closed = now (closed .entry) }) (record { state = now (state .exit); given = now (given .exit); closed = now (closed .exit) }) (now (out .entry)) (now (out .exit)) r ⌝ }
+{
+    let sentence = sentence_of(*state, *given, *closed);
+    let typed = sentence.close(table, out);
+    hand_on(typed, state, given, closed)
 }

@@ -1,11 +1,11 @@
 // An answer as the one number that a function for C gives (document 01, "host door").
 use answers::CompileAnswer;
-use answers::LoadAnswer;
 use answers::Refusal;
 use answers::RunAnswer;
+use answers::WriteAnswer;
 ghost use mathlib.Core.Path.{_≡_};
 ghost use Prim.Native.Nat.{_+_, _*_, _^_, _<_};
-ghost use Rattle.answers.specs.Answer.{refusal, runOutcome, loadOutcome, compileOutcome};
+ghost use Rattle.answers.specs.Answer.{refusal, runOutcome, writeOutcome, compileOutcome};
 ghost use Rattle.packing.specs.Packed.{packed, packedByte, Legible, LegibleByte};
 
 // A number above a refusal, 0 for none.
@@ -50,14 +50,14 @@ pub fn pack_run(answer: RunAnswer) -> u64
     }
 }
 
-// Of loading a table.
-pub fn pack_load(answer: LoadAnswer) -> u64
-    requires { ⌜ Legible (loadOutcome answer) ⌝ }
-    ensures { λ r. ⌜ r ≡ packed (loadOutcome answer) ⌝ }
+// Of loading a table and of typing.
+pub fn pack_written(answer: WriteAnswer) -> u64
+    requires { ⌜ Legible (writeOutcome answer) ⌝ }
+    ensures { λ r. ⌜ r ≡ packed (writeOutcome answer) ⌝ }
 {
     match answer {
-        LoadAnswer::Loaded(count) => pack(count, 0),
-        LoadAnswer::Refused(given) => pack_refusal(given),
+        WriteAnswer::Written(count) => pack(count, 0),
+        WriteAnswer::Refused(given) => pack_refusal(given),
     }
 }
 

@@ -1,10 +1,11 @@
 -- What a run answers and writes, and what reading a table answers.
-use Prim.Native.Nat.{ℕ}
+use Prim.Native.Nat.{ℕ, _+_, _*_, _<_, _≤_}
+use native.Mathlib.Nat.{mul-le-mul-right}
 use native.Mathlib.Omega.{arith}
 use mathlib.Core.Path.{_≡_, refl, sym, ap, _∙_}
 use mathlib.Core.Bool.{Bool, true, false}
 use mathlib.Core.List.{List, [], _++_}
-use lib.ListN.{length, take, drop}
+use lib.ListN.{length, take, drop, getD}
 use lib.Seq.{take-at}
 use Rattle.words.specs.Word.{Below, differences}
 use Rattle.words.proofs.Word.{below-drop}
@@ -29,7 +30,10 @@ use Rattle.tables.proofs.Transduction.{run-length}
 use Rattle.decoder.specs.Answer.{tableOutcome}
 use Rattle.decoder.specs.Index.{Head, HeadRead, Loaded, LoadedIf}
 use Rattle.decoder.specs.declared.TableAnswer.{TableAnswer}
-use Rattle.transduction.specs.Parts.{Runnable, made}
+use Rattle.transduction.specs.Parts.{Runnable, made, CellRead, Tells, FoundIn}
+use Rattle.transduction.specs.declared.Told.{Told}
+use Rattle.transduction.specs.declared.Found.{Found}
+use Rattle.transduction.specs.declared.Found.the-variants.{Entry, Malformed}
 
 -- an admitted sentence has tags below k and room for its result
 admitted : (k : ℕ) (sentence : List ℕ) (room : ℕ) (r : Admission) → r ≡ Admitted → ((m : List ℕ) → admission r m ≡ run k sentence room m) → Accepted k sentence room
@@ -87,45 +91,83 @@ module _ (bs sentence out : List ℕ) where
             ran-changed outcome sentence out m out' n (g ∙ sym runs)
             (record { counted = c ∙ ap (λ (l : List ℕ). differences sentence l) front; front = rw long whole })
 
+-- what is told of a table: nothing of one that is not valid, and of a valid one the entry that the index has
+module _ (bs : List ℕ) (k cell : ℕ) (sentence out : List ℕ) where
+  pub tell-not-loaded : (ix : List ℕ) (r : Bool) → LoadedIf r bs k ix → r ≡ false → Tells bs k cell sentence out out (record { answer = Refused (Bare 12); entry = 0 })
+  tell-not-loaded ix r l e =
+      let none : decode bs ≡ malformed = rw e at l in
+      record {
+        ran = run-malformed bs sentence out none;
+        cell-read = λ d f. let z : _≡_ {A = ℕ} 0 1 = cc (none, f) in absurd (omega arith);
+      }
+
+  pub tell-loaded : (ix out' : List ℕ) (a : RunAnswer) → Loaded bs k ix → Ran (tableRun bs sentence (length out)) sentence out out' a
+      → Tells bs k cell sentence out out' (record { answer = a; entry = getD ix cell 0 })
+  tell-loaded ix out' a u ran =
+      record {
+        ran = ran;
+        cell-read = λ d f. record {
+          table = u .table;
+          decodes = u .decodes;
+          valid = u .valid;
+          final = λ q h c. rw c (u .cells q h .final);
+          steps = λ q a h g c. rw c (u .cells q h .steps a g);
+        };
+      }
+
+-- a table is valid exactly if its run over no tags is not refused; then the entry of its cell is told
+module _ (bs : List ℕ) (k cell : ℕ) (out out' : List ℕ) (r : Told) (told : Tells bs k cell [] out out' r) where
+  none-runs : (d : Decoded) → decode bs ≡ result d → changed [] (tableRun bs [] (length out)) ≡ result 0
+  none-runs d e =
+      let u = told .cell-read d e in
+      let a : Accepted k [] (length out) = record { short = omega arith; below = tt; fits = omega arith } in
+      rw (u .decodes) (rw (accepted-run k [] (length out) (puts (shape (u .table)) 0 []) (omega (arith, u .valid .tags-least)) a) refl)
+
+  refusal-not : (x : Refusal) (n : ℕ) → refusal x ≡ result n → ⊥
+  refusal-not (AtByte i p) n e = let z : _≡_ {A = ℕ} 0 1 = cc in omega arith
+  refusal-not (AtRule i p) n e = let z : _≡_ {A = ℕ} 0 1 = cc in omega arith
+  refusal-not (Bare i) n e = let z : _≡_ {A = ℕ} 0 1 = cc in omega arith
+
+  pub found-none : (x : Refusal) → r .answer ≡ Refused x → decode bs ≡ malformed
+  found-none x e = by (read-decode bs)
+    where
+      by : Read (decode bs) → decode bs ≡ malformed
+      by (refuses f) = f
+      by (gave d f) = absurd (refusal-not x 0 (sym (ap runOutcome e) ∙ told .ran .answered ∙ none-runs d f))
+
+  pub found-entry : (n : ℕ) → r .answer ≡ Changed n → CellRead bs k cell (r .entry)
+  found-entry n e = by (read-decode bs)
+    where
+      by : Read (decode bs) → CellRead bs k cell (r .entry)
+      by (gave d f) = told .cell-read d f
+      by (refuses f) =
+          let o : result n ≡ changed [] (tableRun bs [] (length out)) = sym (ap runOutcome e) ∙ told .ran .answered in
+          let z : result n ≡ refused 12 nothing = rw f at o in
+          let y : _≡_ {A = ℕ} 0 1 = cc in absurd (omega arith)
+
+-- there is a first cell
+pub first-cell : (k s : ℕ) → 1 ≤ s → 0 < s * (k + 1)
+first-cell k s h = omega (arith, mul-le-mul-right (k + 1) h)
+
 -- a table whose head is not read is not read
 pub size-headless : (bs : List ℕ) (a : TableAnswer) → HeadRead bs a → (r : Refusal) → a ≡ TableAnswer.Refused r → tableOutcome a ≡ sizeOf bs
 size-headless bs (TableAnswer.Refused q) g r e = rw (g .0, g .1) refl
 size-headless bs (TableAnswer.Table k s) g r e = let z : _≡_ {A = ℕ} 0 1 = cc in absurd (omega arith)
 
--- a table is read exactly if its run over no tags is not refused
-module _ (bs : List ℕ) (bytes : Below 0x100 bs) (room : ℕ) where
-  none-runs : (d : Decoded) → decode bs ≡ result d → changed [] (tableRun bs [] room) ≡ result 0
-  none-runs d e =
-      let v = decoded bs d bytes e .0 in
-      let a : Accepted (d .tags) [] room = record { short = omega arith; below = tt; fits = omega arith } in
-      rw e (rw (accepted-run (d .tags) [] room (puts (shape (d .table)) 0 []) (omega (arith, v .tags-least)) a) refl)
+-- a cell was found in the table, or not
+module _ (bs : List ℕ) (k cell : ℕ) (f : Found) (found : FoundIn bs k cell f) where
+  pub not-found : f ≡ Malformed → decode bs ≡ malformed
+  not-found e = rw e at found
 
-  refusal-same : {A B : Type 0} (r : Refusal) (n : ℕ) → refusal {A = A} r ≡ refused n nothing → refusal {A = B} r ≡ refused n nothing
-  refusal-same (AtByte i p) n e = let z : _≡_ {A = ℕ} 0 1 = cc in absurd (omega arith)
-  refusal-same (AtRule i p) n e = let z : _≡_ {A = ℕ} 0 1 = cc in absurd (omega arith)
-  refusal-same (Bare i) n e = cc
+  pub cell-of : (n : ℕ) → f ≡ Entry n → CellRead bs k cell n
+  cell-of n e = rw e at found
 
-  refusal-not : (r : Refusal) (n : ℕ) → refusal r ≡ result n → ⊥
-  refusal-not (AtByte i p) n e = let z : _≡_ {A = ℕ} 0 1 = cc in omega arith
-  refusal-not (AtRule i p) n e = let z : _≡_ {A = ℕ} 0 1 = cc in omega arith
-  refusal-not (Bare i) n e = let z : _≡_ {A = ℕ} 0 1 = cc in omega arith
+  pub size-malformed : f ≡ Malformed → tableOutcome (TableAnswer.Refused (Bare 12)) ≡ sizeOf bs
+  size-malformed e = rw (not-found e) refl
 
-  module _ (ran : RunAnswer) (h : runOutcome ran ≡ changed [] (tableRun bs [] room)) where
-    pub size-refused : (r : Refusal) → ran ≡ Refused r → refusal r ≡ sizeOf bs
-    size-refused r n = by (read-decode bs) (rw n at h)
-      where
-        by : Read (decode bs) → refusal r ≡ changed [] (tableRun bs [] room) → refusal r ≡ sizeOf bs
-        by (refuses e) g = rw e (refusal-same r 12 (rw e at g))
-        by (gave d e) g = absurd (refusal-not r 0 (g ∙ none-runs d e))
-
-    -- and its head gives its K and S
-    pub size-read : (n : ℕ) → ran ≡ Changed n → (k s : ℕ) → Head bs k s → tableOutcome (TableAnswer.Table k s) ≡ sizeOf bs
-    size-read n c k s g = by (read-decode bs) (rw c at h)
-      where
-        by : Read (decode bs) → result n ≡ changed [] (tableRun bs [] room) → result (record { tags = k; states = s }) ≡ sizeOf bs
-        by (refuses e) h' =
-            let o : result n ≡ refused 12 nothing = rw e at h' in
-            let z : _≡_ {A = ℕ} 0 1 = cc in absurd (omega arith)
-        by (gave d e) h' =
-            let t = table-read k s (drop 4 bs) d (below-drop 0x100 4 bs bytes) (sym (g .left) ∙ e) in
-            rw (e, ← t .tags, ← t .states) refl
+  -- the head of a valid table gives its K and S
+  pub size-found : Below 0x100 bs → (s : ℕ) → Head bs k s → (n : ℕ) → f ≡ Entry n → tableOutcome (TableAnswer.Table k s) ≡ sizeOf bs
+  size-found bytes s g n e =
+      let u = cell-of n e in
+      let t = table-read k s (drop 4 bs) _ (below-drop 0x100 4 bs bytes) (sym (g .left) ∙ u .decodes) in
+      rw (u .decodes, ← t .states) refl

@@ -1,14 +1,20 @@
 -- What the parts of a table's run promise one another.
-use Prim.Native.Nat.{ℕ, _+_, _<_, _≤_}
+use Prim.Native.Nat.{ℕ, _+_, _*_, _<_, _≤_}
 use mathlib.Core.Path.{_≡_}
 use mathlib.Core.List.{List, [], _++_}
 use lib.ListN.{length, take, drop}
 use Rattle.words.specs.Word.{Below}
 use Rattle.answers.specs.Outcome.{Outcome, result, refused}
+use Rattle.sentences.specs.Run.{Ran}
 use Rattle.transducers.specs.Transducer.{puts}
-use Rattle.transducers.specs.Table.{shape}
-use Rattle.tables.specs.Decode.{Decoded}
+use Rattle.transducers.specs.Table.{Table, row, step, shape}
+use Rattle.tables.specs.Valid.{ValidTable}
+use Rattle.tables.specs.Decode.{Decoded, decode, malformed}
+use Rattle.tables.specs.Run.{tableRun}
+use Rattle.steps.specs.Entry.{FinalEntry, EntryOf}
 use Rattle.decoder.specs.Index.{Loaded}
+use Rattle.transduction.specs.declared.Told.{Told}
+use Rattle.transduction.specs.declared.Found.{Found}
 
 -- a word was put to the output from one place to another; what lies after both is kept
 pub record WordPut (out out' : List ℕ) (at : ℕ) (w : List ℕ) (to : ℕ) : Type 0 where
@@ -27,3 +33,26 @@ pub record Runnable (bs ix sentence out : List ℕ) : Type 0 where
 abbrev pub made : Outcome Decoded → List ℕ → List ℕ
 made (result d) sentence = puts (shape (d .table)) 0 sentence
 made (refused n p) sentence = []
+
+-- a valid table was read, and the entry is that of its cell: of a state's final word, or of its step on a tag
+pub record CellRead (bs : List ℕ) (k cell e : ℕ) : Type 0 where
+  pub table : Table
+  pub decodes : decode bs ≡ result (record { tags = k; table = table })
+  pub valid : ValidTable k table
+  pub final : (q : ℕ) → q < length table → cell ≡ q * (k + 1) → FinalEntry bs (row table q .final) e
+  pub steps :
+      (q a : ℕ)
+      → q < length table
+      → a < k
+      → cell ≡ q * (k + 1) + 1 + a
+      → EntryOf bs (step table q a .next * (k + 1) + 1) (step table q a .output) e
+
+-- what is told of a table: its run over the sentence, and the entry of a cell if it is valid
+pub record Tells (bs : List ℕ) (k cell : ℕ) (sentence before after : List ℕ) (r : Told) : Type 0 where
+  pub ran : Ran (tableRun bs sentence (length before)) sentence before after (r .answer)
+  pub cell-read : (d : Decoded) → decode bs ≡ result d → CellRead bs k cell (r .entry)
+
+-- the entry of a cell was found, or the table is none
+abbrev pub FoundIn : List ℕ → ℕ → ℕ → Found → Type 0
+FoundIn bs k cell (Found.Entry e) = CellRead bs k cell e
+FoundIn bs k cell Found.Malformed = decode bs ≡ malformed

@@ -1,4 +1,4 @@
-// The run of a table over a sentence. Reading a table is running it over no tags.
+// The run of a table over a sentence, and the entry of one of its cells. Reading a table is running it over no tags.
 use answers::Refusal;
 use answers::RunAnswer;
 use decoder::TableAnswer;
@@ -20,10 +20,10 @@ ghost use Rattle.tables.specs.Run.{tableRun, sizeOf};
 ghost use Rattle.decoder.specs.Answer.{tableOutcome};
 ghost use Rattle.steps.specs.Entry.{countOf, placeOf, TagsAt, EntryOf};
 ghost use Rattle.decoder.specs.Index.{Head, Loaded};
-ghost use Rattle.transduction.specs.Parts.{WordPut, Runnable, made};
+ghost use Rattle.transduction.specs.Parts.{WordPut, Runnable, made, Tells, FoundIn};
 
 // The tags from a place of the table, each second byte, to `out` from `at`.
-fn put_word(table: &[u8], place: usize, count: usize, out: &mut [u8], at: usize)
+pub fn put_word(table: &[u8], place: usize, count: usize, out: &mut [u8], at: usize)
     requires { ⌜ (place + 2 * count ≤ length (now table) + 1) × (at + count ≤ length (now out)) ⌝ }
     ensures { λ r. ⌜ ((w : List ℕ) → length w ≡ count → TagsAt (now (table .entry)) place w → now (out .exit) ≡ paste (now (out .entry)) at w count) ⌝ }
 {
@@ -35,7 +35,7 @@ fn put_word(table: &[u8], place: usize, count: usize, out: &mut [u8], at: usize)
 }
 
 // The word of a step's entry to `out` from `at`. One tag is stored whether or not there is one: `out` goes on, and what comes later is stored over it.
-fn put(table: &[u8], e: u64, out: &mut [u8], at: usize) -> usize
+pub fn put(table: &[u8], e: u64, out: &mut [u8], at: usize) -> usize
     requires { ⌜ ((countOf e ≡ 1 → ⊥) → placeOf e + 2 * countOf e ≤ length (now table) + 1) × (at < length (now out)) × (at + countOf e ≤ length (now out)) ⌝ }
     ensures { λ r. ⌜ ((base : ℕ) (w : List ℕ) → EntryOf (now (table .entry)) base w e → length w < 0xff → WordPut (now (out .entry)) (now (out .exit)) at w r) ⌝ }
 {
@@ -80,22 +80,36 @@ fn run_loaded(table: &[u8], k: usize, index: &[u64], sentence: &[u8], out: &mut 
     RunAnswer::Changed(sentences::count_changes(sentence, &out[..n]))
 }
 
-// The run of a table whose head is read, with room for its index.
-fn run_within(
+// What is asked of a table that is read, and lives no longer than its index: its run over a sentence, and the entry of a cell.
+pub struct Told {
+    pub answer: RunAnswer,
+    pub entry: u64,
+}
+
+// Of a table whose head is read, with room for its index.
+fn tell_within(
     table: &[u8],
     k: usize,
     s: usize,
+    cell: usize,
     sentence: &[u8],
     out: &mut [u8],
     index: &mut [u64],
-) -> RunAnswer
-    requires { ⌜ Head (now table) k s × (s * (k + 1) ≤ length (now index)) ⌝ }
-    ensures { λ r. ⌜ Ran (tableRun (now (table .entry)) (now (sentence .entry)) (length (now (out .entry)))) (now (sentence .entry)) (now (out .entry)) (now (out .exit)) r ⌝ }
+) -> Told
+    requires { ⌜ Head (now table) k s × (cell < s * (k + 1)) × (s * (k + 1) ≤ length (now index)) ⌝ }
+    ensures { λ r. ⌜ Tells (now (table .entry)) k cell (now (sentence .entry)) (now (out .entry)) (now (out .exit)) r ⌝ }
 {
     if !decoder::load(table, k, s, index) {
-        return RunAnswer::Refused(Refusal::Bare { number: 12 });
+        return Told {
+            answer: RunAnswer::Refused(Refusal::Bare { number: 12 }),
+            entry: 0,
+        };
     }
-    run_loaded(table, k, index, sentence, out)
+    let answer = run_loaded(table, k, index, sentence, out);
+    Told {
+        answer,
+        entry: index[cell],
+    }
 }
 
 // An index is cleared for each call: small tables have a small one.
@@ -105,65 +119,93 @@ const MIDDLE: usize = 1024;
 
 const BIG: usize = 4096;
 
-fn run_small(table: &[u8], k: usize, s: usize, sentence: &[u8], out: &mut [u8]) -> RunAnswer
-    requires { ⌜ Head (now table) k s × (s * (k + 1) ≤ 192) ⌝ }
-    ensures { λ r. ⌜ Ran (tableRun (now (table .entry)) (now (sentence .entry)) (length (now (out .entry)))) (now (sentence .entry)) (now (out .entry)) (now (out .exit)) r ⌝ }
+fn tell_small(
+    table: &[u8],
+    k: usize,
+    s: usize,
+    cell: usize,
+    sentence: &[u8],
+    out: &mut [u8],
+) -> Told
+    requires { ⌜ Head (now table) k s × (cell < s * (k + 1)) × (s * (k + 1) ≤ 192) ⌝ }
+    ensures { λ r. ⌜ Tells (now (table .entry)) k cell (now (sentence .entry)) (now (out .entry)) (now (out .exit)) r ⌝ }
 {
     let mut index = [0u64; SMALL];
-    run_within(table, k, s, sentence, out, &mut index)
+    tell_within(table, k, s, cell, sentence, out, &mut index)
 }
 
-fn run_middle(table: &[u8], k: usize, s: usize, sentence: &[u8], out: &mut [u8]) -> RunAnswer
-    requires { ⌜ Head (now table) k s × (s * (k + 1) ≤ 1024) ⌝ }
-    ensures { λ r. ⌜ Ran (tableRun (now (table .entry)) (now (sentence .entry)) (length (now (out .entry)))) (now (sentence .entry)) (now (out .entry)) (now (out .exit)) r ⌝ }
+fn tell_middle(
+    table: &[u8],
+    k: usize,
+    s: usize,
+    cell: usize,
+    sentence: &[u8],
+    out: &mut [u8],
+) -> Told
+    requires { ⌜ Head (now table) k s × (cell < s * (k + 1)) × (s * (k + 1) ≤ 1024) ⌝ }
+    ensures { λ r. ⌜ Tells (now (table .entry)) k cell (now (sentence .entry)) (now (out .entry)) (now (out .exit)) r ⌝ }
 {
     let mut index = [0u64; MIDDLE];
-    run_within(table, k, s, sentence, out, &mut index)
+    tell_within(table, k, s, cell, sentence, out, &mut index)
 }
 
-fn run_big(table: &[u8], k: usize, s: usize, sentence: &[u8], out: &mut [u8]) -> RunAnswer
-    requires { ⌜ Head (now table) k s × (s * (k + 1) ≤ 4096) ⌝ }
-    ensures { λ r. ⌜ Ran (tableRun (now (table .entry)) (now (sentence .entry)) (length (now (out .entry)))) (now (sentence .entry)) (now (out .entry)) (now (out .exit)) r ⌝ }
+fn tell_big(table: &[u8], k: usize, s: usize, cell: usize, sentence: &[u8], out: &mut [u8]) -> Told
+    requires { ⌜ Head (now table) k s × (cell < s * (k + 1)) × (s * (k + 1) ≤ 4096) ⌝ }
+    ensures { λ r. ⌜ Tells (now (table .entry)) k cell (now (sentence .entry)) (now (out .entry)) (now (out .exit)) r ⌝ }
 {
     let mut index = [0u64; BIG];
-    run_within(table, k, s, sentence, out, &mut index)
+    tell_within(table, k, s, cell, sentence, out, &mut index)
 }
 
-fn run_large(table: &[u8], k: usize, s: usize, sentence: &[u8], out: &mut [u8]) -> RunAnswer
-    requires { ⌜ Head (now table) k s × (s * (k + 1) ≤ most-states * (most-tags + 1)) ⌝ }
-    ensures { λ r. ⌜ Ran (tableRun (now (table .entry)) (now (sentence .entry)) (length (now (out .entry)))) (now (sentence .entry)) (now (out .entry)) (now (out .exit)) r ⌝ }
+fn tell_large(
+    table: &[u8],
+    k: usize,
+    s: usize,
+    cell: usize,
+    sentence: &[u8],
+    out: &mut [u8],
+) -> Told
+    requires { ⌜ Head (now table) k s × (cell < s * (k + 1)) × (s * (k + 1) ≤ most-states * (most-tags + 1)) ⌝ }
+    ensures { λ r. ⌜ Tells (now (table .entry)) k cell (now (sentence .entry)) (now (out .entry)) (now (out .exit)) r ⌝ }
 {
     let mut index = [0u64; decoder::ENTRIES];
-    run_within(table, k, s, sentence, out, &mut index)
+    tell_within(table, k, s, cell, sentence, out, &mut index)
 }
 
-// The run of a table that needs more than the small index. The function calls itself in a branch that is never taken: so the compiler
+// Of a table that needs more than the small index. The function calls itself in a branch that is never taken: so the compiler
 // keeps it, and each larger index, in a frame of its own, and a small table needs little of the stack.
-fn run_beyond(table: &[u8], k: usize, s: usize, sentence: &[u8], out: &mut [u8]) -> RunAnswer
-    requires { ⌜ Head (now table) k s ⌝ }
-    ensures { λ r. ⌜ Ran (tableRun (now (table .entry)) (now (sentence .entry)) (length (now (out .entry)))) (now (sentence .entry)) (now (out .entry)) (now (out .exit)) r ⌝ }
+fn tell_beyond(
+    table: &[u8],
+    k: usize,
+    s: usize,
+    cell: usize,
+    sentence: &[u8],
+    out: &mut [u8],
+) -> Told
+    requires { ⌜ Head (now table) k s × (cell < s * (k + 1)) ⌝ }
+    ensures { λ r. ⌜ Tells (now (table .entry)) k cell (now (sentence .entry)) (now (out .entry)) (now (out .exit)) r ⌝ }
 {
     if limits::TAGS < k {
-        return run_beyond(table, k, s, sentence, out);
+        return tell_beyond(table, k, s, cell, sentence, out);
     }
     let n = decoder::entries(k, s);
     if n <= MIDDLE {
-        return run_middle(table, k, s, sentence, out);
+        return tell_middle(table, k, s, cell, sentence, out);
     }
     if n <= BIG {
-        return run_big(table, k, s, sentence, out);
+        return tell_big(table, k, s, cell, sentence, out);
     }
-    run_large(table, k, s, sentence, out)
+    tell_large(table, k, s, cell, sentence, out)
 }
 
-fn run_states(table: &[u8], k: usize, s: usize, sentence: &[u8], out: &mut [u8]) -> RunAnswer
-    requires { ⌜ Head (now table) k s ⌝ }
-    ensures { λ r. ⌜ Ran (tableRun (now (table .entry)) (now (sentence .entry)) (length (now (out .entry)))) (now (sentence .entry)) (now (out .entry)) (now (out .exit)) r ⌝ }
+fn tell(table: &[u8], k: usize, s: usize, cell: usize, sentence: &[u8], out: &mut [u8]) -> Told
+    requires { ⌜ Head (now table) k s × (cell < s * (k + 1)) ⌝ }
+    ensures { λ r. ⌜ Tells (now (table .entry)) k cell (now (sentence .entry)) (now (out .entry)) (now (out .exit)) r ⌝ }
 {
     if decoder::entries(k, s) <= SMALL {
-        return run_small(table, k, s, sentence, out);
+        return tell_small(table, k, s, cell, sentence, out);
     }
-    run_beyond(table, k, s, sentence, out)
+    tell_beyond(table, k, s, cell, sentence, out)
 }
 
 // Runs a table over a sentence: the number of changed tags, or 12, 13, 4 or 11 in that order.
@@ -174,11 +216,31 @@ pub fn run_table(table: &[u8], sentence: &[u8], out: &mut [u8]) -> RunAnswer
     let TableAnswer::Table { tags, states } = got else {
         return RunAnswer::Refused(Refusal::Bare { number: 12 });
     };
-    run_states(table, tags, states, sentence, out)
+    let told = tell(table, tags, states, 0, sentence, out);
+    told.answer
 }
 
-// Reads a table: its K and S, or 12. No sentence of no tags is refused. `run_table` is left to one caller, so that the compiler makes it a part
-// of a host's call.
+// The entry of a cell, or that the table is none.
+pub enum Found {
+    Entry(u64),
+    Malformed,
+}
+
+// Reads a table whose head is read, and finds the entry of a cell. No sentence of no tags is refused.
+pub fn find_entry(table: &[u8], k: usize, s: usize, cell: usize) -> Found
+    requires { ⌜ Head (now table) k s × (cell < s * (k + 1)) ⌝ }
+    ensures { λ r. ⌜ FoundIn (now (table .entry)) k cell r ⌝ }
+{
+    let mut out = [0u8; 1];
+    let told = tell(table, k, s, cell, &table[..0], &mut out);
+    let answer = told.answer;
+    let RunAnswer::Changed(_) = answer else {
+        return Found::Malformed;
+    };
+    Found::Entry(told.entry)
+}
+
+// Reads a table: its K and S, or 12.
 pub fn read_table(table: &[u8]) -> TableAnswer
     ensures { λ r. ⌜ tableOutcome r ≡ sizeOf (now (table .entry)) ⌝ }
 {
@@ -186,10 +248,9 @@ pub fn read_table(table: &[u8]) -> TableAnswer
     let TableAnswer::Table { tags, states } = got else {
         return got;
     };
-    let mut out = [0u8; 1];
-    let ran = run_states(table, tags, states, &table[..0], &mut out);
-    if let RunAnswer::Refused(r) = ran {
-        return TableAnswer::Refused(r);
-    }
-    TableAnswer::Table { tags, states }
+    let found = find_entry(table, tags, states, 0);
+    let Found::Entry(_) = found else {
+        return TableAnswer::Refused(Refusal::Bare { number: 12 });
+    };
+    got
 }

@@ -2,7 +2,7 @@
 use native.Mathlib.Omega.{arith}
 use borrow.Author.Needs.{needs}
 use Rattle.answers.specs.declared.Refusal.the-variants.{Bare}
-use Rattle.answers.specs.declared.LoadAnswer.the-variants.{Refused}
+use Rattle.answers.specs.declared.WriteAnswer.the-variants.{Refused}
 use Rattle.decoder.proofs.Head.{head-of, head-not}
 use Rattle.loader.proofs.Loads.{head-malformed}
 use Rattle.loader.proofs.load_table.Statement.{statement}

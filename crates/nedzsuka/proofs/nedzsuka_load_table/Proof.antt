@@ -11,13 +11,13 @@ use Rattle.nedzsuka.proofs.nedzsuka_load_table.Tie as tie
 use Rattle.nedzsuka.proofs.nedzsuka_load_table.Reads as reads
 use Rattle.nedzsuka.proofs.nedzsuka_load_table.Lts as lts
 use Rattle.loader.proofs.load_table.Reads as load-table-reads
-use Rattle.packing.proofs.pack_load.Reads as pack-load-reads
+use Rattle.packing.proofs.pack_written.Reads as pack-written-reads
 
 load-table-requires : tie.Need-load-table-requires
 load-table-requires c κs = search needs
 
-pack-load-requires : tie.Need-pack-load-requires
-pack-load-requires c κs =
+pack-written-requires : tie.Need-pack-written-requires
+pack-written-requires c κs =
     let known = c .before .before .before .before .before in
     let a = known .before .args in
     let bytes = below-of 0x100 (a .table .now) (λ i. omega (arith, known .shared-slice-known .given i)) in
@@ -29,8 +29,8 @@ same-length c = search needs
 returns : tie.Need-returns
 returns c =
     let e = c .before .before .before .load-table .ensures in
-    (c .pack-load .ensures ∙ ap packed (e .answered), e .wrote)
+    (c .pack-written .ensures ∙ ap packed (e .answered), e .wrote)
 
 pub nedzsuka-load-table-spec : {M : Type 1} → statement M
 nedzsuka-load-table-spec =
-    tie.close (tie.spec load-table-requires pack-load-requires same-length returns)
+    tie.close (tie.spec load-table-requires pack-written-requires same-length returns)

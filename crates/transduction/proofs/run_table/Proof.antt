@@ -1,13 +1,13 @@
 -- `transduction::run_table` meets its contract.
 use borrow.Author.Needs.{needs}
 use Rattle.decoder.proofs.Head.{head-of, head-not}
-use Rattle.transduction.proofs.Runs.{run-malformed}
+use Rattle.transduction.proofs.Runs.{run-malformed, first-cell}
 use Rattle.transduction.proofs.run_table.Statement.{statement}
 use Rattle.transduction.proofs.run_table.Tie as tie
 use Rattle.transduction.proofs.run_table.Reads as reads
 use Rattle.transduction.proofs.run_table.Lts as lts
 use Rattle.decoder.proofs.read_head.Reads as read-head-reads
-use Rattle.transduction.proofs.run_states.Reads as run-states-reads
+use Rattle.transduction.proofs.tell.Reads as tell-reads
 
 read-head-requires : tie.Need-read-head-requires
 read-head-requires c κs = search needs
@@ -25,12 +25,13 @@ returns c =
     run-malformed (a .table .now) (a .sentence .now) (a .out .now)
     (head-not (a .table .now) (call .read-head .result) (call .read-head .ensures) (c .enum-told .given .0 .0) (c .enum-told .given .1) .0)
 
-run-states-requires : tie.Need-run-states-requires
-run-states-requires c κs =
+tell-requires : tie.Need-tell-requires
+tell-requires c κs =
     let told = c .before .before .got .given in
     let call = c .before .before .before .before in
     let a = call .before .before .before .before .args in
-    head-of (a .table .now) (call .read-head .result) (call .read-head .ensures) (told .0 .0) (told .0 .1 .0) (told .1)
+    let head = head-of (a .table .now) (call .read-head .result) (call .read-head .ensures) (told .0 .0) (told .0 .1 .0) (told .1) in
+    (head, first-cell (told .0 .0) (told .0 .1 .0) (head .some-states))
 
 same-length : tie.Need-same-length
 same-length c = search needs
@@ -46,6 +47,6 @@ run-table-spec =
     enum-known-got
     enum-told
     returns
-    run-states-requires
+    tell-requires
     same-length
     returns-2)

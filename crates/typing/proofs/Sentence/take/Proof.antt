@@ -1,0 +1,119 @@
+-- `typing::Sentence::take` meets its contract.
+use borrow.Author.Needs.{needs}
+use native.Mathlib.Omega.{arith}
+use mathlib.Core.Path.{sym, subst}
+use lib.ListN.{length}
+use Rattle.typing.specs.Typing.{admits, give, Hands}
+use Rattle.typing.specs.declared.Typed.{Typed}
+use Rattle.typing.proofs.Stands.{admission-refused, admission-admitted}
+use Rattle.typing.proofs.Gives.{take-refused, take-short, take-place, take-base, take-done, is-taken}
+use Rattle.typing.proofs.Sentence.take.Statement.{statement}
+use Rattle.typing.proofs.Sentence.take.Tie as tie
+use Rattle.typing.proofs.Sentence.take.Reads as reads
+use Rattle.typing.proofs.Sentence.take.Lts as lts
+use Rattle.steps.proofs.count_of.Reads as count-of-reads
+use Rattle.typing.proofs.Sentence.admit.Reads as admit-reads
+use Rattle.typing.proofs.Sentence.refuse.Reads as refuse-reads
+use Rattle.typing.proofs.next_state.Reads as next-state-reads
+use Rattle.typing.proofs.put_step.Reads as put-step-reads
+
+admit-requires : tie.Need-admit-requires
+admit-requires c κs = search needs
+
+enum-known-admission : tie.Need-enum-known-admission
+enum-known-admission c = search needs
+
+refuse-requires : tie.Need-refuse-requires
+refuse-requires c κs = search needs
+
+returns : tie.Need-returns
+returns c =
+    let told = c .before .before in
+    let call = told .before .before in
+    let start = call .before .before .before in
+    let a = start .args in
+    let stop =
+    admission-refused (admits (a .self) (a .k) (a .s) (a .tag)) (call .admit .result) (told .admission .given .0 .0) (told .admission .given .1) (call .admit .ensures)
+    in
+    subst (λ (y : Typed). Hands (give (a .table .now) (a .self) (a .tag) (length (a .out .now))) (a .out .now) (a .out .now) y) (sym (c .refuse .ensures))
+    (take-refused (a .table .now) (a .self) (a .tag) (a .out .now) (a .k) (a .s) (a .e) (start .pre) (told .admission .given .0 .0) stop)
+
+enum-told : tie.Need-enum-told
+enum-told c = search needs
+
+count-of-requires : tie.Need-count-of-requires
+count-of-requires c κs = search needs
+
+refuse-requires-2 : tie.Need-refuse-requires-2
+refuse-requires-2 c κs = search needs
+
+returns-2 : tie.Need-returns-2
+returns-2 c =
+    let count = c .before .before in
+    let told = count .before in
+    let call = told .before .before in
+    let start = call .before .before .before in
+    let a = start .args in
+    let go = admission-admitted (admits (a .self) (a .k) (a .s) (a .tag)) (call .admit .result) (told .enum-told .given .1) (call .admit .ensures) in
+    subst (λ (y : Typed). Hands (give (a .table .now) (a .self) (a .tag) (length (a .out .now))) (a .out .now) (a .out .now) y) (sym (c .refuse2 .ensures))
+    (take-short (a .table .now) (a .self) (a .tag) (a .out .now) (a .k) (a .s) (a .e) (start .pre) go (omega arith))
+
+put-step-requires : tie.Need-put-step-requires
+put-step-requires c κs =
+    let count = c .before .before in
+    let told = count .before in
+    let call = told .before .before in
+    let start = call .before .before .before in
+    let a = start .args in
+    let go = admission-admitted (admits (a .self) (a .k) (a .s) (a .tag)) (call .admit .result) (told .enum-told .given .1) (call .admit .ensures) in
+    (take-place (a .table .now) (a .self) (a .tag) (a .out .now) (a .k) (a .s) (a .e) (start .pre) go, omega arith)
+
+next-state-requires : tie.Need-next-state-requires
+next-state-requires c κs =
+    let told = c .before .before .before .before .before .before in
+    let call = told .before .before in
+    let start = call .before .before .before in
+    let a = start .args in
+    let go = admission-admitted (admits (a .self) (a .k) (a .s) (a .tag)) (call .admit .result) (told .enum-told .given .1) (call .admit .ensures) in
+    (take-base (a .table .now) (a .self) (a .tag) (a .out .now) (a .k) (a .s) (a .e) (start .pre) go, start .pre .read .valid .tags-most)
+
+add-t17 : tie.Need-add-t17
+add-t17 c =
+    let told = c .before .before .before .before .before .before .before .before in
+    let call = told .before .before in
+    let start = call .before .before .before in
+    let a = start .args in
+    let go = admission-admitted (admits (a .self) (a .k) (a .s) (a .tag)) (call .admit .result) (told .enum-told .given .1) (call .admit .ensures) in
+    omega (arith, is-taken (a .table .now) (a .self) (a .tag) (a .out .now) (a .k) (a .s) (a .e) (start .pre) go .short)
+
+same-length : tie.Need-same-length
+same-length c = search needs
+
+returns-3 : tie.Need-returns-3
+returns-3 c =
+    let put = c .before .before .before .before in
+    let count = put .before .before .before in
+    let told = count .before in
+    let call = told .before .before in
+    let start = call .before .before .before in
+    let a = start .args in
+    let go = admission-admitted (admits (a .self) (a .k) (a .s) (a .tag)) (call .admit .result) (told .enum-told .given .1) (call .admit .ensures) in
+    take-done (a .table .now) (a .self) (a .tag) (a .out .now) (a .k) (a .s) (a .e) (start .pre) go (omega arith) (put .put-step .last .1 .1 .0) (c .before .next-state .result) (count .count-of .result) (search needs) (c .before .next-state .ensures) (put .put-step .ensures)
+
+pub take-spec : {M : Type 1} → statement M
+take-spec =
+    tie.close
+    (tie.spec
+    admit-requires
+    enum-known-admission
+    refuse-requires
+    returns
+    enum-told
+    count-of-requires
+    refuse-requires-2
+    returns-2
+    put-step-requires
+    next-state-requires
+    add-t17
+    same-length
+    returns-3)

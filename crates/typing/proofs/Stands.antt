@@ -1,0 +1,147 @@
+-- The tests of a sentence: 15 and 16, then 13 and 4. And where the entries of its state stand.
+use Prim.Native.Nat.{ℕ, _+_, _*_, _<_, _≤_}
+use native.Mathlib.Nat.{mul-le-mul-right}
+use native.Mathlib.Omega.{arith}
+use mathlib.Core.Path.{_≡_, refl, sym, ap, _∙_}
+use mathlib.Core.Bool.{Bool, true, false, not}
+use mathlib.Core.List.{List}
+use borrow.Author.Tests.{lt-ltb, le-ltb, ltb-true}
+use lib.Dec.{ltb}
+use lib.ListN.{length, drop}
+use Rattle.limits.specs.Limits.{most-tags, most-states, longest-sentence}
+use Rattle.words.specs.Word.{Below}
+use Rattle.words.proofs.Word.{below-drop}
+use Rattle.answers.specs.Outcome.{Outcome, result, refused, nothing, andThen, provided}
+use Rattle.answers.specs.Answer.{refusal}
+use Rattle.answers.proofs.Outcome.{passed, went, refusal-then}
+use Rattle.answers.specs.declared.Refusal.{Refusal}
+use Rattle.answers.specs.declared.Refusal.the-variants.{AtByte, AtRule, Bare}
+use Rattle.sentences.specs.Admission.{admissionOutcome}
+use Rattle.sentences.specs.declared.Admission.{Admission}
+use Rattle.sentences.specs.declared.Admission.the-variants.{Admitted}
+use Rattle.tables.specs.Decode.{decode}
+use Rattle.tables.specs.Run.{Size, sizeOf}
+use Rattle.tables.proofs.Theorem.{table-read}
+use Rattle.tables.proofs.Outcomes.{Read, gave, refuses, read-decode}
+use Rattle.decoder.specs.Answer.{tableOutcome}
+use Rattle.decoder.specs.declared.TableAnswer.{TableAnswer}
+use Rattle.steps.proofs.Places.{row-inside, all-entries}
+use Rattle.decoder.specs.Index.{Head}
+use Rattle.transduction.specs.Parts.{CellRead}
+use Rattle.typing.specs.Typing.{opened, standing, admits}
+use Rattle.typing.specs.Parts.{TableRead, StepRead, FinalRead}
+use Rattle.typing.specs.declared.Sentence.{Sentence}
+
+module _ (x : Sentence) (n : ℕ) where
+  pub stand-closed : x .closed ≡ true → refused 15 nothing ≡ standing x n
+  stand-closed e = rw e refl
+
+  module _ (e : x .closed ≡ false) where
+    pub stand-beyond : n ≤ x .state → refused 16 nothing ≡ standing x n
+    stand-beyond h = rw (e, le-ltb (x .state) n h) refl
+
+    pub stand-open : x .state < n → result tt ≡ standing x n
+    stand-open h = rw (e, lt-ltb (x .state) n h) refl
+
+  -- a sentence that stands is open, and its state is one of the table's
+  pub stands : standing x n ≡ result tt → (x .closed ≡ false) × (x .state < n)
+  stands e =
+      let a = passed 15 (not (x .closed)) _ tt e in
+      let b = passed 16 (ltb (x .state) n) _ tt (a .1) in
+      (not-closed (x .closed) (a .0), ltb-true (x .state) n (b .0))
+    where
+      not-closed : (b : Bool) → not b ≡ true → b ≡ false
+      not-closed false f = refl
+      not-closed true f = sym f
+
+  module _ (k a : ℕ) where
+    abbrev then : Unit {0} → Outcome (Unit {0})
+    then u = provided 13 (ltb (x .given) longest-sentence) (provided 4 (ltb a k) (result tt))
+
+    pub admit-stop : (y : Refusal) → standing x n ≡ refusal y → refusal y ≡ admits x k n a
+    admit-stop y e = sym (ap (λ (o : Outcome (Unit {0})). andThen o then) e ∙ refusal-then y then)
+
+    module _ (e : standing x n ≡ result tt) where
+      pub admit-long : longest-sentence ≤ x .given → refused 13 nothing ≡ admits x k n a
+      admit-long h = rw (e, le-ltb (x .given) longest-sentence h) refl
+
+      pub admit-tag : x .given < longest-sentence → k ≤ a → refused 4 nothing ≡ admits x k n a
+      admit-tag g h = rw (e, lt-ltb (x .given) longest-sentence g, le-ltb a k h) refl
+
+      pub admit-all : x .given < longest-sentence → a < k → result tt ≡ admits x k n a
+      admit-all g h = rw (e, lt-ltb (x .given) longest-sentence g, lt-ltb a k h) refl
+
+    -- a tag that is taken: the sentence stands, has room for it, and it is one of the table's
+    pub record Taken : Type 0 where
+      pub still-open : x .closed ≡ false
+      pub inside : x .state < n
+      pub short : x .given < longest-sentence
+      pub below : a < k
+
+    pub taken : admits x k n a ≡ result tt → Taken
+    taken e =
+        let s = went (standing x n) then tt e in
+        let g = passed 13 (ltb (x .given) longest-sentence) _ tt (s .then) in
+        let b = passed 4 (ltb a k) _ tt (g .1) in
+        let o = stands (s .read) in
+        record { still-open = o .0; inside = o .1; short = ltb-true (x .given) longest-sentence (g .0); below = ltb-true a k (b .0) }
+
+-- what an admission says
+pub admission-refused : (o : Outcome (Unit {0})) (r : Admission) (y : Refusal) → r ≡ Admission.Refused y → admissionOutcome r ≡ o → o ≡ refusal y
+admission-refused o r y e f = sym f ∙ ap admissionOutcome e
+
+pub admission-admitted : (o : Outcome (Unit {0})) (r : Admission) → r ≡ Admitted → admissionOutcome r ≡ o → o ≡ result tt
+admission-admitted o r e f = sym f ∙ ap admissionOutcome e
+
+-- a sentence is opened exactly if the table is read
+module _ (bs : List ℕ) (r : TableAnswer) (answered : tableOutcome r ≡ sizeOf bs) where
+  pub open-refused : (y : Refusal) → r ≡ TableAnswer.Refused y → refused 12 nothing ≡ opened bs
+  open-refused y e = by (read-decode bs)
+    where
+      never : (y : Refusal) (z : Size) → refusal y ≡ result z → ⊥
+      never (AtByte n i) z f = let z : _≡_ {A = ℕ} 0 1 = cc in omega arith
+      never (AtRule n i) z f = let z : _≡_ {A = ℕ} 0 1 = cc in omega arith
+      never (Bare n) z f = let z : _≡_ {A = ℕ} 0 1 = cc in omega arith
+
+      by : Read (decode bs) → refused 12 nothing ≡ opened bs
+      by (refuses f) = rw f refl
+      by (gave d f) =
+          let size : sizeOf bs ≡ result (record { tags = d .tags; states = length (d .table) }) = rw f refl in
+          absurd (never y (record { tags = d .tags; states = length (d .table) }) (sym (ap tableOutcome e) ∙ answered ∙ size))
+
+  pub open-done : (k s : ℕ) → r ≡ TableAnswer.Table k s → result (record { state = 0; given = 0; closed = false }) ≡ opened bs
+  open-done k s e = by (read-decode bs)
+    where
+      by : Read (decode bs) → result (record { state = 0; given = 0; closed = false }) ≡ opened bs
+      by (gave d f) = rw f refl
+      by (refuses f) =
+          let size : sizeOf bs ≡ refused 12 nothing = rw f refl in
+          let o : tableOutcome (TableAnswer.Table k s) ≡ refused 12 nothing = sym (ap tableOutcome e) ∙ answered ∙ size in
+          let y : _≡_ {A = ℕ} 0 1 = cc in absurd (omega arith)
+
+-- ---- the cells of a state
+
+module _ (k s : ℕ) (some : 1 ≤ s) where
+  pub cell-none : 0 + k < s * (k + 1)
+  cell-none = omega (arith, mul-le-mul-right (k + 1) some)
+
+  pub cell-some : (q : ℕ) → q < s → q * (k + 1) + k < s * (k + 1)
+  cell-some q h = row-inside q s k (s * (k + 1)) h (omega arith)
+
+  pub cell-small : (q : ℕ) → q < s → s ≤ most-states → k ≤ most-tags → q * (k + 1) < 0x10000
+  cell-small q h m n = omega (arith, cell-some q h, all-entries s k m n)
+
+-- a table was read, with the entry of a cell: what it says of the sentence's state
+module _ (bs : List ℕ) (k s cell e : ℕ) (bytes : Below 0x100 bs) (head : Head bs k s) (u : CellRead bs k cell e) (x : Sentence) where
+  states : length (u .table) ≡ s
+  states = table-read k s (drop 4 bs) _ (below-drop 0x100 4 bs bytes) (sym (head .left) ∙ u .decodes) .states
+
+  abbrev table-is : TableRead bs k s
+  table-is = record { table = u .table; decodes = u .decodes; valid = u .valid; states = states }
+
+  pub step-read : (a : ℕ) → (x .state < s → a < k → cell ≡ x .state * (k + 1) + 1 + a) → StepRead bs k s x a e
+  step-read a at =
+      record { read = table-is; entry = λ h g. u .steps (x .state) a (omega (arith, states)) g (at h g) }
+
+  pub final-read : (x .state < s → cell ≡ x .state * (k + 1)) → FinalRead bs k s x e
+  final-read at = record { read = table-is; entry = λ h. u .final (x .state) (omega (arith, states)) (at h) }
