@@ -26,3 +26,9 @@ pub refusal-then : {A B : Type 0} (r : Refusal) (f : A → Outcome B) → andThe
 refusal-then (AtByte n i) f = refl
 refusal-then (AtRule n i) f = refl
 refusal-then (Bare n) f = refl
+
+-- and is no result
+pub refusal-never : {A : Type 0} (r : Refusal) (a : A) → refusal r ≡ result a → ⊥
+refusal-never (AtByte n i) a e = let z : _≡_ {A = ℕ} 0 1 = cc in omega arith
+refusal-never (AtRule n i) a e = let z : _≡_ {A = ℕ} 0 1 = cc in omega arith
+refusal-never (Bare n) a e = let z : _≡_ {A = ℕ} 0 1 = cc in omega arith

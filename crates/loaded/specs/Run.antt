@@ -1,13 +1,12 @@
 -- What any numbers make of a sentence. What the sentence's way meets is tested there, and nothing else is looked at.
 use Prim.Native.Nat.{ℕ, _+_, _*_, _/_, _%_}
-use mathlib.Core.Path.{_≡_}
 use mathlib.Core.Bool.{true, false, _&&_}
 use mathlib.Core.List.{List, [], _∷_, _++_, map}
 use lib.Dec.{eqb, leb, ltb}
 use lib.ListN.{length, take, drop, getD}
 use Rattle.limits.specs.Limits.{fewest-tags, most-tags}
 use Rattle.answers.specs.Outcome.{Outcome, result, andThen, provided}
-use Rattle.answers.specs.Slice.{fitting, longOf, written}
+use Rattle.answers.specs.Slice.{fitting}
 use Rattle.answers.specs.Answer.{Filled}
 use Rattle.answers.specs.declared.WriteAnswer.{WriteAnswer}
 use Rattle.sentences.specs.Run.{highest, admitted}

@@ -1,6 +1,5 @@
 -- From the answers of typing to the numbers for C.
 use Prim.Native.Nat.{ℕ}
-use native.Mathlib.Omega.{arith}
 use mathlib.Core.Path.{_≡_, refl, sym, ap, _∙_, subst}
 use mathlib.Core.List.{List}
 use Rattle.answers.specs.Outcome.{Outcome, result, refused}

@@ -11,16 +11,17 @@ use Rattle.words.specs.Word.{Below, differences}
 use Rattle.answers.specs.Outcome.{Outcome, result, refused, Place}
 use Rattle.answers.specs.Slice.{longOf, written}
 use Rattle.answers.proofs.Slice.{front-result}
+use Rattle.sentences.specs.Run.{changed}
+use Rattle.tagger.specs.Run.{bookRun}
 use Rattle.tables.specs.Run.{tableRun}
 use Rattle.packing.specs.Packed.{packed, Legible}
 use Rattle.typing.specs.Typing.{Handed, opened, give, look, close}
 use Rattle.typing.specs.Session.{Call, gives, looks, closes, call, takes, brings, Session, proceed, proceeds, session}
 use Rattle.typing.specs.declared.Sentence.{Sentence}
-use Rattle.typing.proofs.Session.{refused-keeps, refused-nothing}
 use Rattle.typing.proofs.Theorems.{closed-is-run, looked-is-run}
 use Rattle.nedzsuka.specs.Typing.{Numbers, sentenceOf, flag, numbersOf, handedOn, openedAs, openedOn, TypeCall}
 use Rattle.nedzsuka.proofs.Legible.{legible-open, legible-give, legible-held, legible-close}
-use Rattle.nedzsuka.proofs.Demand.{RunCall, made-counted, means-result, refused-writes}
+use Rattle.nedzsuka.proofs.Demand.{CompileCall, RunCall, made-counted, means-result, same-run}
 
 -- what the contract of nedzsuka_open says, and that of nedzsuka_look
 pub record OpenCall (table : List ℕ) (n n' : Numbers) (number : ℕ) : Type 0 where
@@ -201,3 +202,16 @@ module _ (table : List ℕ) (bytes : Below 0x100 table) where
         run-is (x ++ v)
         (looked-is-run table bytes (m .start) (m .opened-as) (m .calls) (length before) v look-is (length out) fits
         ∙ ap (λ (l : List ℕ). result (l ++ v)) (m .out))
+
+-- compiled and typed: of a closed sentence, what was put out is what nedzsuka_run_book_ending writes for the tags taken
+pub typed-book : (book : List ℕ) (end c : ℕ) (work room table : List ℕ) (compiled : ℕ) → CompileCall book end c work room table compiled → compiled % 256 ≡ 0
+    → Below 0x100 (take (compiled / 256) table)
+    → (n : Numbers) (w x : List ℕ) → Typing (take (compiled / 256) table) n w x → (n .closed ≡ 0 → ⊥)
+    → (out by-book : List ℕ) (number : ℕ) → length w ≤ length out → RunCall (bookRun book end w (length out)) w out by-book number
+    → (number ≡ differences w x * 256) × (by-book ≡ x ++ drop (length x) out)
+typed-book book end c work room table compiled call ok bytes n w x t shut out by-book number long run =
+    let o = tableRun (take (compiled / 256) table) w (length out) in
+    let by-table : RunCall o w out (written o out) (packed (changed w o)) = record { answered = refl; wrote = refl } in
+    let a = closed-run (take (compiled / 256) table) bytes n w x t out (written o out) (packed (changed w o)) long by-table shut in
+    let b = same-run book end c work room table compiled call ok w out (written o out) by-book (packed (changed w o)) number by-table run in
+    (sym (b .0) ∙ a .0, sym (b .1) ∙ a .1)

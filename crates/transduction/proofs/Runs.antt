@@ -2,17 +2,19 @@
 use Prim.Native.Nat.{ℕ, _+_, _*_, _<_, _≤_}
 use native.Mathlib.Nat.{mul-le-mul-right}
 use native.Mathlib.Omega.{arith}
-use mathlib.Core.Path.{_≡_, refl, sym, ap, _∙_}
+use mathlib.Core.Path.{_≡_, refl, sym, ap, _∙_, subst}
 use mathlib.Core.Bool.{Bool, true, false}
 use mathlib.Core.List.{List, [], _++_}
 use lib.ListN.{length, take, drop, getD}
 use lib.Seq.{take-at}
+use Rattle.limits.specs.Limits.{most-tags, most-states}
 use Rattle.words.specs.Word.{Below, differences}
 use Rattle.words.proofs.Word.{below-drop}
 use Rattle.answers.specs.Outcome.{Outcome, result, refused, nothing}
 use Rattle.answers.specs.Answer.{refusal, runOutcome}
+use Rattle.answers.proofs.Outcome.{refusal-never}
 use Rattle.answers.specs.declared.Refusal.{Refusal}
-use Rattle.answers.specs.declared.Refusal.the-variants.{AtByte, AtRule, Bare}
+use Rattle.answers.specs.declared.Refusal.the-variants.{Bare}
 use Rattle.answers.specs.declared.RunAnswer.{RunAnswer}
 use Rattle.answers.specs.declared.RunAnswer.the-variants.{Changed, Refused}
 use Rattle.sentences.specs.Run.{run, changed, Accepted, Ran}
@@ -24,13 +26,15 @@ use Rattle.transducers.specs.Transducer.{puts}
 use Rattle.transducers.specs.Table.{shape}
 use Rattle.tables.specs.Decode.{Decoded, decode, malformed}
 use Rattle.tables.specs.Run.{tableRun, sizeOf}
-use Rattle.tables.proofs.Theorem.{decoded, table-read}
+use Rattle.tables.specs.Valid.{ValidTable}
+use Rattle.tables.proofs.Theorem.{table-read}
 use Rattle.tables.proofs.Outcomes.{Read, gave, refuses, read-decode}
 use Rattle.tables.proofs.Transduction.{run-length}
 use Rattle.decoder.specs.Answer.{tableOutcome}
-use Rattle.decoder.specs.Index.{Head, HeadRead, Loaded, LoadedIf}
+use Rattle.steps.proofs.Places.{row-inside, all-entries}
+use Rattle.decoder.specs.Index.{Head, Loaded, LoadedIf}
 use Rattle.decoder.specs.declared.TableAnswer.{TableAnswer}
-use Rattle.transduction.specs.Parts.{Runnable, made, CellRead, Tells, FoundIn}
+use Rattle.transduction.specs.Parts.{Runnable, made, EntryAt, Tells, CellRead, FoundIn}
 use Rattle.transduction.specs.declared.Told.{Told}
 use Rattle.transduction.specs.declared.Found.{Found}
 use Rattle.transduction.specs.declared.Found.the-variants.{Entry, Malformed}
@@ -98,76 +102,81 @@ module _ (bs : List ℕ) (k cell : ℕ) (sentence out : List ℕ) where
       let none : decode bs ≡ malformed = rw e at l in
       record {
         ran = run-malformed bs sentence out none;
-        cell-read = λ d f. let z : _≡_ {A = ℕ} 0 1 = cc (none, f) in absurd (omega arith);
+        told = λ d f. let z : _≡_ {A = ℕ} 0 1 = cc (none, f) in absurd (omega arith);
       }
 
   pub tell-loaded : (ix out' : List ℕ) (a : RunAnswer) → Loaded bs k ix → Ran (tableRun bs sentence (length out)) sentence out out' a
       → Tells bs k cell sentence out out' (record { answer = a; entry = getD ix cell 0 })
-  tell-loaded ix out' a u ran =
-      record {
-        ran = ran;
-        cell-read = λ d f. record {
-          table = u .table;
-          decodes = u .decodes;
-          valid = u .valid;
-          final = λ q h c. rw c (u .cells q h .final);
-          steps = λ q a h g c. rw c (u .cells q h .steps a g);
-        };
-      }
+  tell-loaded ix out' a u ran = record { ran = ran; told = λ d f. by d (cc (sym (u .decodes) ∙ f)) }
+    where
+      by : (d : Decoded) → record { tags = k; table = u .table } ≡ d → (d .tags ≡ k) × ValidTable k (d .table) × EntryAt bs k (d .table) cell (getD ix cell 0)
+      by d e =
+          subst (λ (x : Decoded). (x .tags ≡ k) × ValidTable k (x .table) × EntryAt bs k (x .table) cell (getD ix cell 0)) e (
+            refl,
+            u .valid,
+            record { final = λ q h c. rw c (u .cells q h .final); steps = λ q a h g c. rw c (u .cells q h .steps a g) },
+          )
+
+-- there is a first cell, and one for each column of each state
+module _ (k s : ℕ) (some : 1 ≤ s) where
+  pub first-cell : 0 < s * (k + 1)
+  first-cell = omega (arith, mul-le-mul-right (k + 1) some)
+
+  pub cell-inside : (q c : ℕ) → q < s → c ≤ k → q * (k + 1) + c < s * (k + 1)
+  cell-inside q c h g = omega (arith, row-inside q s k (s * (k + 1)) h (omega arith))
+
+  pub cell-small : (q c : ℕ) → q < s → c ≤ k → s ≤ most-states → k ≤ most-tags → q * (k + 1) + c < 0x10000
+  cell-small q c h g m n = omega (arith, cell-inside q c h g, all-entries s k m n)
 
 -- a table is valid exactly if its run over no tags is not refused; then the entry of its cell is told
-module _ (bs : List ℕ) (k cell : ℕ) (out out' : List ℕ) (r : Told) (told : Tells bs k cell [] out out' r) where
+module _ (bs : List ℕ) (k s cell : ℕ) (out out' : List ℕ) (r : Told) (tells : Tells bs k cell [] out out' r) where
   none-runs : (d : Decoded) → decode bs ≡ result d → changed [] (tableRun bs [] (length out)) ≡ result 0
   none-runs d e =
-      let u = told .cell-read d e in
-      let a : Accepted k [] (length out) = record { short = omega arith; below = tt; fits = omega arith } in
-      rw (u .decodes) (rw (accepted-run k [] (length out) (puts (shape (u .table)) 0 []) (omega (arith, u .valid .tags-least)) a) refl)
-
-  refusal-not : (x : Refusal) (n : ℕ) → refusal x ≡ result n → ⊥
-  refusal-not (AtByte i p) n e = let z : _≡_ {A = ℕ} 0 1 = cc in omega arith
-  refusal-not (AtRule i p) n e = let z : _≡_ {A = ℕ} 0 1 = cc in omega arith
-  refusal-not (Bare i) n e = let z : _≡_ {A = ℕ} 0 1 = cc in omega arith
+      let u = tells .told d e in
+      let a : Accepted (d .tags) [] (length out) = record { short = omega arith; below = tt; fits = omega arith } in
+      rw e (rw (accepted-run (d .tags) [] (length out) (puts (shape (d .table)) 0 []) (omega (arith, u .0, u .1 .tags-least)) a) refl)
 
   pub found-none : (x : Refusal) → r .answer ≡ Refused x → decode bs ≡ malformed
   found-none x e = by (read-decode bs)
     where
       by : Read (decode bs) → decode bs ≡ malformed
       by (refuses f) = f
-      by (gave d f) = absurd (refusal-not x 0 (sym (ap runOutcome e) ∙ told .ran .answered ∙ none-runs d f))
+      by (gave d f) = absurd (refusal-never x 0 (sym (ap runOutcome e) ∙ tells .ran .answered ∙ none-runs d f))
 
-  pub found-entry : (n : ℕ) → r .answer ≡ Changed n → CellRead bs k cell (r .entry)
-  found-entry n e = by (read-decode bs)
+  pub found-entry : Below 0x100 bs → Head bs k s → (state column : ℕ) → (state < s → column ≤ k → cell ≡ state * (k + 1) + column)
+      → (n : ℕ) → r .answer ≡ Changed n → CellRead bs state column k s (r .entry)
+  found-entry bytes head state column at n e = by (read-decode bs)
     where
-      by : Read (decode bs) → CellRead bs k cell (r .entry)
-      by (gave d f) = told .cell-read d f
+      by : Read (decode bs) → CellRead bs state column k s (r .entry)
+      by (gave d f) =
+          let u = tells .told d f in
+          let t = table-read k s (drop 4 bs) d (below-drop 0x100 4 bs bytes) (sym (head .left) ∙ f) in
+          record {
+            table = d .table;
+            decodes = f ∙ ap (λ (j : ℕ). result (record { tags = j; table = d .table })) (u .0);
+            valid = u .1;
+            states = t .states;
+            final = λ h c. u .2 .final state (omega (arith, t .states)) (omega (arith, at h (omega arith)));
+            steps = λ a h g c. u .2 .steps state a (omega (arith, t .states)) g (omega (arith, at h (omega arith)));
+          }
       by (refuses f) =
-          let o : result n ≡ changed [] (tableRun bs [] (length out)) = sym (ap runOutcome e) ∙ told .ran .answered in
+          let o : result n ≡ changed [] (tableRun bs [] (length out)) = sym (ap runOutcome e) ∙ tells .ran .answered in
           let z : result n ≡ refused 12 nothing = rw f at o in
           let y : _≡_ {A = ℕ} 0 1 = cc in absurd (omega arith)
 
--- there is a first cell
-pub first-cell : (k s : ℕ) → 1 ≤ s → 0 < s * (k + 1)
-first-cell k s h = omega (arith, mul-le-mul-right (k + 1) h)
-
--- a table whose head is not read is not read
-pub size-headless : (bs : List ℕ) (a : TableAnswer) → HeadRead bs a → (r : Refusal) → a ≡ TableAnswer.Refused r → tableOutcome a ≡ sizeOf bs
-size-headless bs (TableAnswer.Refused q) g r e = rw (g .0, g .1) refl
-size-headless bs (TableAnswer.Table k s) g r e = let z : _≡_ {A = ℕ} 0 1 = cc in absurd (omega arith)
-
 -- a cell was found in the table, or not
-module _ (bs : List ℕ) (k cell : ℕ) (f : Found) (found : FoundIn bs k cell f) where
+module _ (bs : List ℕ) (state column : ℕ) (f : Found) (found : FoundIn bs state column f) where
   pub not-found : f ≡ Malformed → decode bs ≡ malformed
   not-found e = rw e at found
 
-  pub cell-of : (n : ℕ) → f ≡ Entry n → CellRead bs k cell n
-  cell-of n e = rw e at found
+  pub cell-of : (k s n : ℕ) → f ≡ Entry k s n → CellRead bs state column k s n
+  cell-of k s n e = rw e at found
 
   pub size-malformed : f ≡ Malformed → tableOutcome (TableAnswer.Refused (Bare 12)) ≡ sizeOf bs
   size-malformed e = rw (not-found e) refl
 
-  -- the head of a valid table gives its K and S
-  pub size-found : Below 0x100 bs → (s : ℕ) → Head bs k s → (n : ℕ) → f ≡ Entry n → tableOutcome (TableAnswer.Table k s) ≡ sizeOf bs
-  size-found bytes s g n e =
-      let u = cell-of n e in
-      let t = table-read k s (drop 4 bs) _ (below-drop 0x100 4 bs bytes) (sym (g .left) ∙ u .decodes) in
-      rw (u .decodes, ← t .states) refl
+  pub size-found : (k s n : ℕ) → f ≡ Entry k s n → tableOutcome (TableAnswer.Table k s) ≡ sizeOf bs
+  size-found k s n e =
+      let u = cell-of k s n e in
+      let size : sizeOf bs ≡ result (record { tags = k; states = length (u .table) }) = rw (u .decodes) refl in
+      sym (size ∙ ap (λ (j : ℕ). result (record { tags = k; states = j })) (u .states))

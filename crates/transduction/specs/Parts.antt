@@ -34,25 +34,35 @@ abbrev pub made : Outcome Decoded → List ℕ → List ℕ
 made (result d) sentence = puts (shape (d .table)) 0 sentence
 made (refused n p) sentence = []
 
--- a valid table was read, and the entry is that of its cell: of a state's final word, or of its step on a tag
-pub record CellRead (bs : List ℕ) (k cell e : ℕ) : Type 0 where
-  pub table : Table
-  pub decodes : decode bs ≡ result (record { tags = k; table = table })
-  pub valid : ValidTable k table
-  pub final : (q : ℕ) → q < length table → cell ≡ q * (k + 1) → FinalEntry bs (row table q .final) e
+-- the entry of a cell: of a state's final word, or of its step on a tag
+pub record EntryAt (bs : List ℕ) (k : ℕ) (t : Table) (cell e : ℕ) : Type 0 where
+  pub final : (q : ℕ) → q < length t → cell ≡ q * (k + 1) → FinalEntry bs (row t q .final) e
   pub steps :
       (q a : ℕ)
-      → q < length table
+      → q < length t
       → a < k
       → cell ≡ q * (k + 1) + 1 + a
-      → EntryOf bs (step table q a .next * (k + 1) + 1) (step table q a .output) e
+      → EntryOf bs (step t q a .next * (k + 1) + 1) (step t q a .output) e
 
 -- what is told of a table: its run over the sentence, and the entry of a cell if it is valid
 pub record Tells (bs : List ℕ) (k cell : ℕ) (sentence before after : List ℕ) (r : Told) : Type 0 where
   pub ran : Ran (tableRun bs sentence (length before)) sentence before after (r .answer)
-  pub cell-read : (d : Decoded) → decode bs ≡ result d → CellRead bs k cell (r .entry)
+  pub told : (d : Decoded) → decode bs ≡ result d → (d .tags ≡ k) × ValidTable k (d .table) × EntryAt bs k (d .table) cell (r .entry)
 
--- the entry of a cell was found, or the table is none
+-- a valid table was read, and the entry is that of the state's column, if there is one
+pub record CellRead (bs : List ℕ) (state column k s e : ℕ) : Type 0 where
+  pub table : Table
+  pub decodes : decode bs ≡ result (record { tags = k; table = table })
+  pub valid : ValidTable k table
+  pub states : length table ≡ s
+  pub final : state < s → column ≡ 0 → FinalEntry bs (row table state .final) e
+  pub steps :
+      (a : ℕ)
+      → state < s
+      → a < k
+      → column ≡ 1 + a
+      → EntryOf bs (step table state a .next * (k + 1) + 1) (step table state a .output) e
+
 abbrev pub FoundIn : List ℕ → ℕ → ℕ → Found → Type 0
-FoundIn bs k cell (Found.Entry e) = CellRead bs k cell e
-FoundIn bs k cell Found.Malformed = decode bs ≡ malformed
+FoundIn bs state column (Found.Entry k s e) = CellRead bs state column k s e
+FoundIn bs state column Found.Malformed = decode bs ≡ malformed

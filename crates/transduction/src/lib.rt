@@ -220,37 +220,59 @@ pub fn run_table(table: &[u8], sentence: &[u8], out: &mut [u8]) -> RunAnswer
     told.answer
 }
 
-// The entry of a cell, or that the table is none.
+// A table's K, S and the entry of a cell, or that it is none.
 pub enum Found {
-    Entry(u64),
+    Entry {
+        tags: usize,
+        states: usize,
+        entry: u64,
+    },
     Malformed,
 }
 
-// Reads a table whose head is read, and finds the entry of a cell. No sentence of no tags is refused.
-pub fn find_entry(table: &[u8], k: usize, s: usize, cell: usize) -> Found
-    requires { ⌜ Head (now table) k s × (cell < s * (k + 1)) ⌝ }
-    ensures { λ r. ⌜ FoundIn (now (table .entry)) k cell r ⌝ }
+// The cell of a state's column: 0 is its final word, 1 + a its step on the tag a. The first cell where there is no such state or column.
+fn cell_of(state: usize, column: usize, k: usize, s: usize) -> usize
+    requires { ⌜ (1 ≤ s) × (s ≤ most-states) × (k ≤ most-tags) ⌝ }
+    ensures { λ r. ⌜ (state < s → column ≤ k → r ≡ state * (k + 1) + column) × (r < s * (k + 1)) ⌝ }
 {
+    if s <= state {
+        return 0;
+    }
+    if k < column {
+        return 0;
+    }
+    state * (k + 1) + column
+}
+
+// Reads a table and finds the entry of a state's column. No sentence of no tags is refused.
+pub fn find_entry(table: &[u8], state: usize, column: usize) -> Found
+    ensures { λ r. ⌜ FoundIn (now (table .entry)) state column r ⌝ }
+{
+    let got = decoder::read_head(table);
+    let TableAnswer::Table { tags, states } = got else {
+        return Found::Malformed;
+    };
     let mut out = [0u8; 1];
-    let told = tell(table, k, s, cell, &table[..0], &mut out);
+    let cell = cell_of(state, column, tags, states);
+    let told = tell(table, tags, states, cell, &table[..0], &mut out);
     let answer = told.answer;
     let RunAnswer::Changed(_) = answer else {
         return Found::Malformed;
     };
-    Found::Entry(told.entry)
+    Found::Entry {
+        tags,
+        states,
+        entry: told.entry,
+    }
 }
 
 // Reads a table: its K and S, or 12.
 pub fn read_table(table: &[u8]) -> TableAnswer
     ensures { λ r. ⌜ tableOutcome r ≡ sizeOf (now (table .entry)) ⌝ }
 {
-    let got = decoder::read_head(table);
-    let TableAnswer::Table { tags, states } = got else {
-        return got;
-    };
-    let found = find_entry(table, tags, states, 0);
-    let Found::Entry(_) = found else {
+    let found = find_entry(table, 0, 0);
+    let Found::Entry { tags, states, .. } = found else {
         return TableAnswer::Refused(Refusal::Bare { number: 12 });
     };
-    got
+    TableAnswer::Table { tags, states }
 }

@@ -8,20 +8,18 @@ use mathlib.Core.List.{List, [], _∷_, _++_}
 use borrow.Author.Tests.{le-leb, lt-leb}
 use lib.Dec.{leb}
 use lib.ListN.{length, take, drop, take-append-drop}
-use Rattle.limits.specs.Limits.{longest-sentence}
-use Rattle.answers.specs.Outcome.{Outcome, result, refused, nothing, andThen, provided}
+use Rattle.answers.specs.Outcome.{Outcome, result, andThen, provided}
 use Rattle.answers.specs.Answer.{refusal}
 use Rattle.answers.proofs.Outcome.{refusal-then}
 use Rattle.answers.proofs.Slice.{filled-refused, filled-written}
 use Rattle.answers.specs.declared.Refusal.{Refusal}
 use Rattle.answers.specs.declared.Refusal.the-variants.{AtByte, AtRule, Bare}
 use Rattle.answers.specs.declared.WriteAnswer.{WriteAnswer}
-use Rattle.transducers.specs.Table.{Step, Table, row, step}
-use Rattle.tables.specs.Decode.{Decoded, decode, malformed}
+use Rattle.transducers.specs.Table.{Step, Table, step}
+use Rattle.tables.specs.Decode.{decode, malformed}
 use Rattle.steps.specs.Entry.{baseOf, countOf, placeOf, EntryOf}
-use Rattle.transduction.specs.Parts.{WordPut}
+use Rattle.transduction.specs.Parts.{WordPut, CellRead}
 use Rattle.typing.specs.Typing.{Handed, admits, stepped, moved, give, Hands}
-use Rattle.typing.specs.Parts.{StepRead}
 use Rattle.typing.specs.declared.Sentence.{Sentence}
 use Rattle.typing.proofs.Stands.{Taken, taken}
 
@@ -61,9 +59,9 @@ module _ (bs : List ℕ) (x : Sentence) (a : ℕ) (out : List ℕ) where
       → Hands (give bs x a (length out)) out out (record { sentence = x; answer = WriteAnswer.Refused (Bare 12) })
   give-malformed e = give-refused (Bare 12) (rw e refl)
 
-  module _ (k s e : ℕ) (u : StepRead bs k s x a e) where
+  module _ (k s e : ℕ) (u : CellRead bs (x .state) (1 + a) k s e) where
     abbrev t : Table
-    t = u .read .table
+    t = u .table
 
     abbrev v : Step
     v = step t (x .state) a
@@ -72,7 +70,7 @@ module _ (bs : List ℕ) (x : Sentence) (a : ℕ) (out : List ℕ) where
     room y = provided 11 (leb (length (v .output)) (length out)) (result v)
 
     steps : stepped bs x a (length out) ≡ andThen (admits x k s a) room
-    steps = rw (u .read .decodes) (ap (λ (n : ℕ). andThen (admits x k n a) room) (u .read .states))
+    steps = rw (u .decodes) (ap (λ (n : ℕ). andThen (admits x k n a) room) (u .states))
 
     pub take-refused : (r : Refusal) → admits x k s a ≡ refusal r
         → Hands (give bs x a (length out)) out out (record { sentence = x; answer = WriteAnswer.Refused r })
@@ -83,14 +81,14 @@ module _ (bs : List ℕ) (x : Sentence) (a : ℕ) (out : List ℕ) where
       is-taken = taken x s k a f
 
       cell : EntryOf bs (v .next * (k + 1) + 1) (v .output) e
-      cell = u .entry (is-taken .inside) (is-taken .below)
+      cell = u .steps a (is-taken .inside) (is-taken .below) refl
 
       inside : x .state < length t
-      inside = omega (arith, is-taken .inside, u .read .states)
+      inside = omega (arith, is-taken .inside, u .states)
 
       short : length (v .output) < 0xff
       short =
-          omega (arith, u .read .valid .balanced (x .state) a inside (is-taken .below), u .read .valid .held (x .state) inside)
+          omega (arith, u .valid .balanced (x .state) a inside (is-taken .below), u .valid .held (x .state) inside)
 
       count : countOf e ≡ length (v .output)
       count = omega (arith, cell .count-is, short)
@@ -107,21 +105,19 @@ module _ (bs : List ℕ) (x : Sentence) (a : ℕ) (out : List ℕ) where
       pub take-base : 1 ≤ baseOf e
       take-base = omega (arith, cell .base-is)
 
-      pub take-done : countOf e ≤ length out → (out' : List ℕ) (next n : ℕ) → n ≡ countOf e → next ≡ (baseOf e - 1) / (k + 1)
+      pub take-done : countOf e ≤ length out → (out' : List ℕ) (next n : ℕ) (after : Sentence) → n ≡ countOf e → next ≡ (baseOf e - 1) / (k + 1)
+          → after ≡ record { state = next; given = x .given + 1; closed = x .closed }
           → ((base : ℕ) (w : List ℕ) → EntryOf bs base w e → length w < 0xff → out' ≡ w ++ drop (length w) out)
-          → Hands (give bs x a (length out)) out out'
-          (record {
-            sentence = record { state = next; given = x .given + 1; closed = x .closed };
-            answer = WriteAnswer.Written n;
-          })
-      take-done h out' next n c b all =
+          → Hands (give bs x a (length out)) out out' (record { sentence = after; answer = WriteAnswer.Written n })
+      take-done h out' next n after c b then all =
           let o : leb (length (v .output)) (length out) ≡ true = le-leb (length (v .output)) (length out) (omega (arith, count)) in
-          let e' : stepped bs x a (length out) ≡ result v = steps ∙ rw (f, o) refl in
-          let g : give bs x a (length out) ≡ moved x (result v) = ap (moved x) e' in
+          let done : stepped bs x a (length out) ≡ result v = steps ∙ rw (f, o) refl in
+          let g : give bs x a (length out) ≡ moved x (result v) = ap (moved x) done in
           let to : next ≡ v .next = b ∙ next-of (v .next) k (baseOf e) (cell .base-is) in
           record {
             sentence =
-                ap (λ (q : ℕ). record { state = q; given = x .given + 1; closed = x .closed }) to
+                then
+                ∙ ap (λ (q : ℕ). record { state = q; given = x .given + 1; closed = x .closed }) to
                 ∙ sym (ap (λ (y : Handed). y .sentence) g);
             filled =
                 filled-written (give bs x a (length out) .put) (v .output) out out' n (ap (λ (y : Handed). y .put) g) (c ∙ count)

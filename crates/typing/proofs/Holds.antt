@@ -4,25 +4,25 @@ use native.Mathlib.Nat.{zero-add}
 use native.Mathlib.Omega.{arith}
 use mathlib.Core.Path.{_≡_, refl, sym, ap, _∙_}
 use mathlib.Core.Bool.{true, false}
-use mathlib.Core.List.{List, [], _++_}
+use mathlib.Core.List.{List}
 use borrow.Author.Tests.{le-leb, lt-leb}
 use lib.Dec.{leb}
-use lib.ListN.{length, take, drop}
+use lib.ListN.{length, take}
 use lib.Seq.{paste, take-length}
 use Rattle.answers.specs.Outcome.{Outcome, result, refused, nothing, andThen}
 use Rattle.answers.specs.Slice.{fitting, longOf, written}
 use Rattle.answers.specs.Answer.{refusal, writeOutcome, Filled}
-use Rattle.answers.proofs.Outcome.{refusal-then}
+use Rattle.answers.proofs.Outcome.{refusal-then, refusal-never}
 use Rattle.answers.proofs.Slice.{filled-refused, filled-written}
 use Rattle.answers.specs.declared.Refusal.{Refusal}
-use Rattle.answers.specs.declared.Refusal.the-variants.{AtByte, AtRule, Bare}
+use Rattle.answers.specs.declared.Refusal.the-variants.{Bare}
 use Rattle.answers.specs.declared.WriteAnswer.{WriteAnswer}
 use Rattle.answers.specs.declared.WriteAnswer.the-variants.{Written, Refused}
-use Rattle.transducers.specs.Table.{Table, row}
+use Rattle.transducers.specs.Table.{row}
 use Rattle.tables.specs.Decode.{decode, malformed}
 use Rattle.steps.specs.Entry.{countOf, placeOf, TagsAt, FinalEntry}
+use Rattle.transduction.specs.Parts.{CellRead}
 use Rattle.typing.specs.Typing.{standing, held, close, shut, Hands}
-use Rattle.typing.specs.Parts.{FinalRead}
 use Rattle.typing.specs.declared.Sentence.{Sentence}
 use Rattle.typing.proofs.Stands.{stands}
 
@@ -33,14 +33,14 @@ module _ (bs : List ℕ) (x : Sentence) (out : List ℕ) where
   pub held-malformed : decode bs ≡ malformed → Filled outcome out out (Refused (Bare 12))
   held-malformed e = filled-refused outcome out (Bare 12) (rw e refl)
 
-  module _ (k s e : ℕ) (u : FinalRead bs k s x e) where
+  module _ (k s e : ℕ) (u : CellRead bs (x .state) 0 k s e) where
     abbrev w : List ℕ
-    w = row (u .read .table) (x .state) .final
+    w = row (u .table) (x .state) .final
 
     holds : held bs x (length out) ≡ andThen (standing x s) (λ y. fitting (length out) w)
     holds =
-        rw (u .read .decodes)
-        (ap (λ (n : ℕ). andThen {A = Unit {0}} (standing x n) (λ y. fitting (length out) w)) (u .read .states))
+        rw (u .decodes)
+        (ap (λ (n : ℕ). andThen {A = Unit {0}} (standing x n) (λ y. fitting (length out) w)) (u .states))
 
     pub held-refused : (r : Refusal) → standing x s ≡ refusal r → Filled outcome out out (Refused r)
     held-refused r f =
@@ -49,7 +49,7 @@ module _ (bs : List ℕ) (x : Sentence) (out : List ℕ) where
 
     module _ (f : standing x s ≡ result tt) where
       cell : FinalEntry bs w e
-      cell = u .entry (stands x s f .1)
+      cell = u .final (stands x s f .1) refl
 
       pub held-short : length out < countOf e → Filled outcome out out (Refused (Bare 11))
       held-short h =
@@ -72,14 +72,12 @@ module _ (bs : List ℕ) (x : Sentence) (out : List ℕ) where
     -- a close that is refused hands back what it got, and has written nothing
     pub close-refused : (y : Refusal) → r ≡ Refused y
         → Hands (close bs x (length out)) out out' (record { sentence = x; answer = Refused y })
-    close-refused y e = by (held bs x (length out)) refl y e (filled .answered) (filled .wrote)
+    close-refused y e = by (held bs x (length out)) e (filled .answered) (filled .wrote)
       where
-        by : (o : Outcome (List ℕ)) → held bs x (length out) ≡ o → (y : Refusal) → r ≡ Refused y → writeOutcome r ≡ longOf o → out' ≡ written o out
+        by : (o : Outcome (List ℕ)) → r ≡ Refused y → writeOutcome r ≡ longOf o → out' ≡ written o out
             → Hands (shut x o) out out' (record { sentence = x; answer = Refused y })
-        by (refused n p) q y e a f = record { sentence = refl; filled = record { answered = sym (ap writeOutcome e) ∙ a; wrote = f } }
-        by (result v) q (AtByte n i) e a f = let z : _≡_ {A = ℕ} 0 1 = cc in absurd (omega arith)
-        by (result v) q (AtRule n i) e a f = let z : _≡_ {A = ℕ} 0 1 = cc in absurd (omega arith)
-        by (result v) q (Bare n) e a f = let z : _≡_ {A = ℕ} 0 1 = cc in absurd (omega arith)
+        by (refused n p) e a f = record { sentence = refl; filled = record { answered = sym (ap writeOutcome e) ∙ a; wrote = f } }
+        by (result v) e a f = absurd (refusal-never y (length v) (sym (ap writeOutcome e) ∙ a))
 
     pub close-done : (n : ℕ) → r ≡ Written n
         → Hands (close bs x (length out)) out out'

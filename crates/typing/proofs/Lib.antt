@@ -5,3 +5,4 @@ pub mod Holds
 pub mod Ends
 pub mod Session
 pub mod Theorems
+pub mod Examples

@@ -1,5 +1,5 @@
 -- What any calls from an opening on keep: what was put out, with what the state still puts out, is the run of the tags taken.
-use Prim.Native.Nat.{ℕ, zero, _+_, _<_, _≤_}
+use Prim.Native.Nat.{ℕ, _+_, _<_, _≤_}
 use native.Mathlib.Omega.{arith}
 use mathlib.Core.Path.{_≡_, refl, sym, ap, _∙_, subst}
 use mathlib.Core.Bool.{Bool, true, false}
@@ -16,7 +16,7 @@ use Rattle.transducers.specs.Transducer.{Shape, puts}
 use Rattle.transducers.specs.Table.{Step, row, step, shape}
 use Rattle.tables.specs.Valid.{ValidTable}
 use Rattle.tables.specs.Decode.{Decoded, decode}
-use Rattle.typing.specs.Typing.{Handed, standing, admits, stepped, held, moved, shut, give, close}
+use Rattle.typing.specs.Typing.{standing, admits, stepped, held, moved, shut, give, close}
 use Rattle.typing.specs.Session.{Call, gives, looks, closes, call, takes, brings, Session, proceed, proceeds}
 use Rattle.typing.specs.declared.Sentence.{Sentence}
 use Rattle.typing.proofs.Stands.{stands, Taken, taken}
@@ -60,7 +60,11 @@ module _ (table : List ℕ) (x : Session) where
       same-session table x c (refused n p) e (refused-keeps table (x .sentence) c n p e) (refused-takes c n p .0) (refused-takes c n p .1)
 
   pub look-nothing : (room : ℕ) → proceed table x (looks room) ≡ x
-  look-nothing room = same-session table x (looks room) (held table (x .sentence) room) refl refl refl refl
+  look-nothing room = same-session table x (looks room) (held table (x .sentence) room) refl refl refl (by (held table (x .sentence) room))
+    where
+      by : (o : Outcome (List ℕ)) → brings (looks room) o ≡ []
+      by (result w) = refl
+      by (refused n p) = refl
 
 -- ---- results
 

@@ -1,35 +1,26 @@
--- The tests of a sentence: 15 and 16, then 13 and 4. And where the entries of its state stand.
-use Prim.Native.Nat.{ℕ, _+_, _*_, _<_, _≤_}
-use native.Mathlib.Nat.{mul-le-mul-right}
+-- Opening, and the tests of a sentence: 15 and 16, then 13 and 4.
+use Prim.Native.Nat.{ℕ, _<_, _≤_}
 use native.Mathlib.Omega.{arith}
 use mathlib.Core.Path.{_≡_, refl, sym, ap, _∙_}
 use mathlib.Core.Bool.{Bool, true, false, not}
 use mathlib.Core.List.{List}
 use borrow.Author.Tests.{lt-ltb, le-ltb, ltb-true}
 use lib.Dec.{ltb}
-use lib.ListN.{length, drop}
-use Rattle.limits.specs.Limits.{most-tags, most-states, longest-sentence}
-use Rattle.words.specs.Word.{Below}
-use Rattle.words.proofs.Word.{below-drop}
+use lib.ListN.{length}
+use Rattle.limits.specs.Limits.{longest-sentence}
 use Rattle.answers.specs.Outcome.{Outcome, result, refused, nothing, andThen, provided}
 use Rattle.answers.specs.Answer.{refusal}
-use Rattle.answers.proofs.Outcome.{passed, went, refusal-then}
+use Rattle.answers.proofs.Outcome.{passed, went, refusal-then, refusal-never}
 use Rattle.answers.specs.declared.Refusal.{Refusal}
-use Rattle.answers.specs.declared.Refusal.the-variants.{AtByte, AtRule, Bare}
 use Rattle.sentences.specs.Admission.{admissionOutcome}
 use Rattle.sentences.specs.declared.Admission.{Admission}
 use Rattle.sentences.specs.declared.Admission.the-variants.{Admitted}
 use Rattle.tables.specs.Decode.{decode}
-use Rattle.tables.specs.Run.{Size, sizeOf}
-use Rattle.tables.proofs.Theorem.{table-read}
+use Rattle.tables.specs.Run.{sizeOf}
 use Rattle.tables.proofs.Outcomes.{Read, gave, refuses, read-decode}
 use Rattle.decoder.specs.Answer.{tableOutcome}
 use Rattle.decoder.specs.declared.TableAnswer.{TableAnswer}
-use Rattle.steps.proofs.Places.{row-inside, all-entries}
-use Rattle.decoder.specs.Index.{Head}
-use Rattle.transduction.specs.Parts.{CellRead}
 use Rattle.typing.specs.Typing.{opened, standing, admits}
-use Rattle.typing.specs.Parts.{TableRead, StepRead, FinalRead}
 use Rattle.typing.specs.declared.Sentence.{Sentence}
 
 module _ (x : Sentence) (n : ℕ) where
@@ -98,16 +89,11 @@ module _ (bs : List ℕ) (r : TableAnswer) (answered : tableOutcome r ≡ sizeOf
   pub open-refused : (y : Refusal) → r ≡ TableAnswer.Refused y → refused 12 nothing ≡ opened bs
   open-refused y e = by (read-decode bs)
     where
-      never : (y : Refusal) (z : Size) → refusal y ≡ result z → ⊥
-      never (AtByte n i) z f = let z : _≡_ {A = ℕ} 0 1 = cc in omega arith
-      never (AtRule n i) z f = let z : _≡_ {A = ℕ} 0 1 = cc in omega arith
-      never (Bare n) z f = let z : _≡_ {A = ℕ} 0 1 = cc in omega arith
-
       by : Read (decode bs) → refused 12 nothing ≡ opened bs
       by (refuses f) = rw f refl
       by (gave d f) =
           let size : sizeOf bs ≡ result (record { tags = d .tags; states = length (d .table) }) = rw f refl in
-          absurd (never y (record { tags = d .tags; states = length (d .table) }) (sym (ap tableOutcome e) ∙ answered ∙ size))
+          absurd (refusal-never y (record { tags = d .tags; states = length (d .table) }) (sym (ap tableOutcome e) ∙ answered ∙ size))
 
   pub open-done : (k s : ℕ) → r ≡ TableAnswer.Table k s → result (record { state = 0; given = 0; closed = false }) ≡ opened bs
   open-done k s e = by (read-decode bs)
@@ -118,30 +104,3 @@ module _ (bs : List ℕ) (r : TableAnswer) (answered : tableOutcome r ≡ sizeOf
           let size : sizeOf bs ≡ refused 12 nothing = rw f refl in
           let o : tableOutcome (TableAnswer.Table k s) ≡ refused 12 nothing = sym (ap tableOutcome e) ∙ answered ∙ size in
           let y : _≡_ {A = ℕ} 0 1 = cc in absurd (omega arith)
-
--- ---- the cells of a state
-
-module _ (k s : ℕ) (some : 1 ≤ s) where
-  pub cell-none : 0 + k < s * (k + 1)
-  cell-none = omega (arith, mul-le-mul-right (k + 1) some)
-
-  pub cell-some : (q : ℕ) → q < s → q * (k + 1) + k < s * (k + 1)
-  cell-some q h = row-inside q s k (s * (k + 1)) h (omega arith)
-
-  pub cell-small : (q : ℕ) → q < s → s ≤ most-states → k ≤ most-tags → q * (k + 1) < 0x10000
-  cell-small q h m n = omega (arith, cell-some q h, all-entries s k m n)
-
--- a table was read, with the entry of a cell: what it says of the sentence's state
-module _ (bs : List ℕ) (k s cell e : ℕ) (bytes : Below 0x100 bs) (head : Head bs k s) (u : CellRead bs k cell e) (x : Sentence) where
-  states : length (u .table) ≡ s
-  states = table-read k s (drop 4 bs) _ (below-drop 0x100 4 bs bytes) (sym (head .left) ∙ u .decodes) .states
-
-  abbrev table-is : TableRead bs k s
-  table-is = record { table = u .table; decodes = u .decodes; valid = u .valid; states = states }
-
-  pub step-read : (a : ℕ) → (x .state < s → a < k → cell ≡ x .state * (k + 1) + 1 + a) → StepRead bs k s x a e
-  step-read a at =
-      record { read = table-is; entry = λ h g. u .steps (x .state) a (omega (arith, states)) g (at h g) }
-
-  pub final-read : (x .state < s → cell ≡ x .state * (k + 1)) → FinalRead bs k s x e
-  final-read at = record { read = table-is; entry = λ h. u .final (x .state) (omega (arith, states)) (at h) }

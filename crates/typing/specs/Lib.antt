@@ -1,4 +1,3 @@
 -- Typing: what each call hands back, and what any list of calls comes to.
 pub mod Typing
 pub mod Session
-pub mod Parts

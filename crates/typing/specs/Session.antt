@@ -28,7 +28,8 @@ takes (closes room) o = []
 abbrev pub brings : Call → Outcome (List ℕ) → List ℕ
 brings (gives a room) (result w) = w
 brings (gives a room) (refused n p) = []
-brings (looks room) o = []
+brings (looks room) (result w) = []
+brings (looks room) (refused n p) = []
 brings (closes room) (result w) = w
 brings (closes room) (refused n p) = []
 

@@ -3,7 +3,6 @@
 use answers::Refusal;
 use answers::WriteAnswer;
 use decoder::TableAnswer;
-use decoder::read_head;
 use sentences::Admission;
 use steps::base_of;
 use steps::count_of;
@@ -18,14 +17,14 @@ ghost use mathlib.Core.Path.{_≡_};
 ghost use Prim.Native.Nat.{ℕ, _+_, _*_, _-_, _/_, _≤_, _<_};
 ghost use mathlib.Core.List.{List, _++_};
 ghost use lib.ListN.{length, drop};
-ghost use Rattle.limits.specs.Limits.{most-tags, most-states};
+ghost use Rattle.limits.specs.Limits.{most-tags, longest-sentence};
 ghost use Rattle.answers.specs.Answer.{Filled};
 ghost use Rattle.answers.specs.declared.Refusal.{Refusal};
 ghost use Rattle.answers.specs.declared.WriteAnswer.{WriteAnswer};
 ghost use Rattle.sentences.specs.Admission.{admissionOutcome};
 ghost use Rattle.steps.specs.Entry.{baseOf, countOf, placeOf, EntryOf};
+ghost use Rattle.transduction.specs.Parts.{CellRead};
 ghost use Rattle.typing.specs.Typing.{opened, standing, admits, held, give, look, close, openOutcome, Hands};
-ghost use Rattle.typing.specs.Parts.{StepRead, FinalRead};
 
 // An open sentence, with any values: the state that its table is in, how many tags were given, and whether it is closed.
 pub struct Sentence {
@@ -44,29 +43,6 @@ pub enum Opened {
 pub struct Typed {
     pub sentence: Sentence,
     pub answer: WriteAnswer,
-}
-
-// The cell of a state's final word; the first one where there is no such state.
-fn state_cell(state: usize, k: usize, s: usize) -> usize
-    requires { ⌜ (1 ≤ s) × (s ≤ most-states) × (k ≤ most-tags) ⌝ }
-    ensures { λ r. ⌜ (state < s → r ≡ state * (k + 1)) × (r + k < s * (k + 1)) ⌝ }
-{
-    if s <= state {
-        return 0;
-    }
-    state * (k + 1)
-}
-
-// The cell of its step on a tag; some cell where there is none.
-fn step_cell(state: usize, tag: u8, k: usize, s: usize) -> usize
-    requires { ⌜ (1 ≤ s) × (s ≤ most-states) × (k ≤ most-tags) ⌝ }
-    ensures { λ r. ⌜ (state < s → tag < k → r ≡ state * (k + 1) + 1 + tag) × (r < s * (k + 1)) ⌝ }
-{
-    let cell = state_cell(state, k, s);
-    if k <= wide(tag) {
-        return cell;
-    }
-    cell + 1 + wide(tag)
 }
 
 // The state that a step leads to, from its entry.
@@ -88,6 +64,16 @@ fn put_step(table: &[u8], e: u64, out: &mut [u8])
     put(table, e, out, 0);
 }
 
+// A refused call hands the sentence back.
+fn refuse(sentence: Sentence, given: Refusal) -> Typed
+    ensures { λ r. ⌜ r ≡ record { sentence = sentence; answer = WriteAnswer.Refused given } ⌝ }
+{
+    Typed {
+        sentence,
+        answer: WriteAnswer::Refused(given),
+    }
+}
+
 impl Sentence {
     // Opens a sentence over a table, or 12.
     pub fn open(table: &[u8]) -> Opened
@@ -102,15 +88,6 @@ impl Sentence {
             given: 0,
             closed: false,
         })
-    }
-
-    fn refuse(self, given: Refusal) -> Typed
-        ensures { λ r. ⌜ r ≡ record { sentence = self; answer = WriteAnswer.Refused given } ⌝ }
-    {
-        Typed {
-            sentence: self,
-            answer: WriteAnswer::Refused(given),
-        }
     }
 
     // 15 and 16 in that order: whether the sentence can go on over a table of so many states.
@@ -143,26 +120,35 @@ impl Sentence {
         stands
     }
 
+    // The sentence with a tag more, in another state.
+    fn advance(self, state: usize) -> Sentence
+        requires { ⌜ self .given < longest-sentence ⌝ }
+        ensures { λ r. ⌜ r ≡ record { state = state; given = self .given + 1; closed = self .closed } ⌝ }
+    {
+        Sentence {
+            state,
+            given: self.given + 1,
+            closed: self.closed,
+        }
+    }
+
     // Gives a tag, of which the table is read and the entry of its step is found.
     fn take(self, table: &[u8], k: usize, s: usize, e: u64, tag: u8, out: &mut [u8]) -> Typed
-        requires { ⌜ StepRead (now table) k s self tag e ⌝ }
+        requires { ⌜ CellRead (now table) (self .state) (1 + tag) k s e ⌝ }
         ensures { λ r. ⌜ Hands (give (now (table .entry)) self tag (length (now (out .entry)))) (now (out .entry)) (now (out .exit)) r ⌝ }
     {
         let admission = self.admit(k, s, tag);
         if let Admission::Refused(r) = admission {
-            return self.refuse(r);
+            return refuse(self, r);
         }
+        let after = self.advance(next_state(e, k));
         let count = count_of(e);
         if out.len() < count {
-            return self.refuse(Refusal::Bare { number: 11 });
+            return refuse(self, Refusal::Bare { number: 11 });
         }
         put_step(table, e, out);
         Typed {
-            sentence: Sentence {
-                state: next_state(e, k),
-                given: self.given + 1,
-                closed: self.closed,
-            },
+            sentence: after,
             answer: WriteAnswer::Written(count),
         }
     }
@@ -171,21 +157,21 @@ impl Sentence {
     pub fn give(self, table: &[u8], tag: u8, out: &mut [u8]) -> Typed
         ensures { λ r. ⌜ Hands (give (now (table .entry)) self tag (length (now (out .entry)))) (now (out .entry)) (now (out .exit)) r ⌝ }
     {
-        let got = read_head(table);
-        let TableAnswer::Table { tags, states } = got else {
-            return self.refuse(Refusal::Bare { number: 12 });
+        let found = find_entry(table, self.state, 1 + wide(tag));
+        let Found::Entry {
+            tags,
+            states,
+            entry,
+        } = found
+        else {
+            return refuse(self, Refusal::Bare { number: 12 });
         };
-        let cell = step_cell(self.state, tag, tags, states);
-        let found = find_entry(table, tags, states, cell);
-        let Found::Entry(e) = found else {
-            return self.refuse(Refusal::Bare { number: 12 });
-        };
-        self.take(table, tags, states, e, tag, out)
+        self.take(table, tags, states, entry, tag, out)
     }
 
     // The final word of the state, of which the table is read and the entry found.
     fn put_final(self, table: &[u8], k: usize, s: usize, e: u64, out: &mut [u8]) -> WriteAnswer
-        requires { ⌜ FinalRead (now table) k s self e ⌝ }
+        requires { ⌜ CellRead (now table) (self .state) 0 k s e ⌝ }
         ensures { λ r. ⌜ Filled (held (now (table .entry)) self (length (now (out .entry)))) (now (out .entry)) (now (out .exit)) r ⌝ }
     {
         let stands = self.stand(s);
@@ -204,16 +190,16 @@ impl Sentence {
     fn put_held(self, table: &[u8], out: &mut [u8]) -> WriteAnswer
         ensures { λ r. ⌜ Filled (held (now (table .entry)) self (length (now (out .entry)))) (now (out .entry)) (now (out .exit)) r ⌝ }
     {
-        let got = read_head(table);
-        let TableAnswer::Table { tags, states } = got else {
+        let found = find_entry(table, self.state, 0);
+        let Found::Entry {
+            tags,
+            states,
+            entry,
+        } = found
+        else {
             return WriteAnswer::Refused(Refusal::Bare { number: 12 });
         };
-        let cell = state_cell(self.state, tags, states);
-        let found = find_entry(table, tags, states, cell);
-        let Found::Entry(e) = found else {
-            return WriteAnswer::Refused(Refusal::Bare { number: 12 });
-        };
-        self.put_final(table, tags, states, e, out)
+        self.put_final(table, tags, states, entry, out)
     }
 
     // What closing now would put out; the sentence stays open.
@@ -233,7 +219,7 @@ impl Sentence {
     {
         let answer = self.put_held(table, out);
         if let WriteAnswer::Refused(r) = answer {
-            return self.refuse(r);
+            return refuse(self, r);
         }
         Typed {
             sentence: Sentence {

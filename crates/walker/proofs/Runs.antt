@@ -14,6 +14,7 @@ use Rattle.answers.specs.Outcome.{Outcome, result, refused, nothing, andThen, p
 use Rattle.answers.specs.Answer.{refusal, runOutcome}
 use Rattle.answers.specs.declared.Refusal.{Refusal}
 use Rattle.answers.specs.declared.Refusal.the-variants.{AtByte, AtRule, Bare}
+use Rattle.answers.proofs.Outcome.{refusal-never}
 use Rattle.answers.specs.declared.RunAnswer.{RunAnswer}
 use Rattle.answers.specs.declared.RunAnswer.the-variants.{Changed, Refused}
 use Rattle.sentences.specs.Run.{highest, admitted, run, Ran, Accepted}
@@ -103,13 +104,8 @@ module _ (ns s out : List ℕ) where
     abbrev tested : Bool → Bool → Bool → Outcome (List ℕ) → Outcome (List ℕ)
     tested a b c o = andThen {A = Unit {0}} (provided 13 a (provided 4 b (result tt))) (λ x. provided 11 c o)
 
-    never-result : (x : Refusal) (made : List ℕ) → refusal x ≡ result made → ⊥
-    never-result (AtByte n p) made e = let z : _≡_ {A = ℕ} 0 1 = cc in omega arith
-    never-result (AtRule n p) made e = let z : _≡_ {A = ℕ} 0 1 = cc in omega arith
-    never-result (Bare n) made e = let z : _≡_ {A = ℕ} 0 1 = cc in omega arith
-
     refused-tests : (a b c : Bool) (x : Refusal) → refusal x ≡ tested a b c (result []) → tested a b c (wayRun ns k s) ≡ refusal x
-    refused-tests true true true x e = absurd (never-result x [] e)
+    refused-tests true true true x e = absurd (refusal-never x [] e)
     refused-tests true true false x e = sym e
     refused-tests true false c x e = sym e
     refused-tests false b c x e = sym e

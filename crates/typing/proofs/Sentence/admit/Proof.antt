@@ -1,7 +1,7 @@
 -- `typing::Sentence::admit` meets its contract.
 use borrow.Author.Needs.{needs}
 use native.Mathlib.Omega.{arith}
-use mathlib.Core.Path.{sym, ap, _∙_}
+use mathlib.Core.Path.{ap, _∙_}
 use Rattle.sentences.specs.Admission.{admissionOutcome}
 use Rattle.typing.specs.Typing.{standing}
 use Rattle.typing.proofs.Stands.{admission-refused, admission-admitted, admit-stop, admit-long, admit-tag, admit-all}

@@ -10,7 +10,7 @@ use Rattle.typing.proofs.Sentence.close.Tie as tie
 use Rattle.typing.proofs.Sentence.close.Reads as reads
 use Rattle.typing.proofs.Sentence.close.Lts as lts
 use Rattle.typing.proofs.Sentence.put_held.Reads as put-held-reads
-use Rattle.typing.proofs.Sentence.refuse.Reads as refuse-reads
+use Rattle.typing.proofs.refuse.Reads as refuse-reads
 
 put-held-requires : tie.Need-put-held-requires
 put-held-requires c κs = search needs

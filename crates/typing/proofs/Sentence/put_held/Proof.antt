@@ -1,99 +1,51 @@
 -- `typing::Sentence::put_held` meets its contract.
 use borrow.Author.Needs.{needs}
-use native.Mathlib.Omega.{arith}
-use Rattle.tables.proofs.Words.{below-of}
-use Rattle.decoder.proofs.Head.{head-of, head-not}
 use Rattle.transduction.proofs.Runs.{not-found, cell-of}
-use Rattle.typing.proofs.Stands.{final-read}
 use Rattle.typing.proofs.Holds.{held-malformed}
 use Rattle.typing.proofs.Sentence.put_held.Statement.{statement}
 use Rattle.typing.proofs.Sentence.put_held.Tie as tie
 use Rattle.typing.proofs.Sentence.put_held.Reads as reads
 use Rattle.typing.proofs.Sentence.put_held.Lts as lts
-use Rattle.decoder.proofs.read_head.Reads as read-head-reads
 use Rattle.transduction.proofs.find_entry.Reads as find-entry-reads
 use Rattle.typing.proofs.Sentence.put_final.Reads as put-final-reads
-use Rattle.typing.proofs.state_cell.Reads as state-cell-reads
 
-read-head-requires : tie.Need-read-head-requires
-read-head-requires c κs = search needs
+find-entry-requires : tie.Need-find-entry-requires
+find-entry-requires c κs = search needs
 
-enum-known-got : tie.Need-enum-known-got
-enum-known-got c = search needs
+enum-known-found : tie.Need-enum-known-found
+enum-known-found c = search needs
 
 enum-told : tie.Need-enum-told
 enum-told c = search needs
 
 returns : tie.Need-returns
 returns c =
-    let told = c .enum-told .given in
     let call = c .before .before in
     let a = call .before .before .before .args in
-    held-malformed (a .table .now) (a .self) (a .out .now) (head-not (a .table .now) (call .read-head .result) (call .read-head .ensures) (told .0 .0) (told .1) .0)
-
-state-cell-requires : tie.Need-state-cell-requires
-state-cell-requires c κs =
-    let got = c .before .got .given in
-    let call = c .before .before .before in
-    let a = call .before .before .before .args in
-    let head = head-of (a .table .now) (call .read-head .result) (call .read-head .ensures) (got .0 .0) (got .0 .1 .0) (got .1) in
-    (head .some-states, head .few-states, head .few-tags)
-
-find-entry-requires : tie.Need-find-entry-requires
-find-entry-requires c κs =
-    let got = c .before .before .got .given in
-    let call = c .before .before .before .before in
-    let a = call .before .before .before .args in
-    let head = head-of (a .table .now) (call .read-head .result) (call .read-head .ensures) (got .0 .0) (got .0 .1 .0) (got .1) in
-    (head, omega (arith, c .state-cell .ensures .1))
-
-enum-known-found : tie.Need-enum-known-found
-enum-known-found c = search needs
-
-enum-told-2 : tie.Need-enum-told-2
-enum-told-2 c = search needs
-
-returns-2 : tie.Need-returns-2
-returns-2 c =
-    let find = c .before .before in
-    let got = find .before .before .before .got .given in
-    let call = find .before .before .before .before .before in
-    let a = call .before .before .before .args in
-    held-malformed (a .table .now) (a .self) (a .out .now) (not-found (a .table .now) (got .0 .0) (find .before .state-cell .result) (find .find-entry .result) (find .find-entry .ensures) (c .enum-told2 .given .1))
+    held-malformed (a .table .now) (a .self) (a .out .now)
+    (not-found (a .table .now) (a .self .state) 0 (call .find-entry .result) (call .find-entry .ensures) (c .enum-told .given .1))
 
 put-final-requires : tie.Need-put-final-requires
 put-final-requires c κs =
-    let find = c .before .before .before .before in
-    let got = find .before .before .before .got .given in
-    let call = find .before .before .before .before .before in
-    let known = call .before .before in
-    let a = known .before .args in
-    let bytes = below-of 0x100 (a .table .now) (λ i. omega (arith, known .shared-slice-known .given i)) in
     let told = c .before .before .found .given in
-    let cell = find .before .state-cell in
-    let head = head-of (a .table .now) (call .read-head .result) (call .read-head .ensures) (got .0 .0) (got .0 .1 .0) (got .1) in
-    let u = cell-of (a .table .now) (got .0 .0) (cell .result) (find .find-entry .result) (find .find-entry .ensures) (told .0 .0) (told .1) in
-    final-read (a .table .now) (got .0 .0) (got .0 .1 .0) (cell .result) (told .0 .0) bytes head u (a .self) (cell .ensures .0)
+    let call = c .before .before .before .before in
+    let a = call .before .before .before .args in
+    cell-of (a .table .now) (a .self .state) 0 (call .find-entry .result) (call .find-entry .ensures) (told .0 .0) (told .0 .1 .0) (told .0 .1 .1 .0) (told .1)
 
 same-length : tie.Need-same-length
 same-length c = search needs
 
-returns-3 : tie.Need-returns-3
-returns-3 c = search needs
+returns-2 : tie.Need-returns-2
+returns-2 c = search needs
 
 pub put-held-spec : {M : Type 1} → statement M
 put-held-spec =
     tie.close
     (tie.spec
-    read-head-requires
-    enum-known-got
-    enum-told
-    returns
-    state-cell-requires
     find-entry-requires
     enum-known-found
-    enum-told-2
-    returns-2
+    enum-told
+    returns
     put-final-requires
     same-length
-    returns-3)
+    returns-2)

@@ -6,14 +6,15 @@ use lib.ListN.{length}
 use Rattle.typing.specs.Typing.{admits, give, Hands}
 use Rattle.typing.specs.declared.Typed.{Typed}
 use Rattle.typing.proofs.Stands.{admission-refused, admission-admitted}
-use Rattle.typing.proofs.Gives.{take-refused, take-short, take-place, take-base, take-done, is-taken}
+use Rattle.typing.proofs.Gives.{is-taken, take-refused, take-short, take-place, take-base, take-done}
 use Rattle.typing.proofs.Sentence.take.Statement.{statement}
 use Rattle.typing.proofs.Sentence.take.Tie as tie
 use Rattle.typing.proofs.Sentence.take.Reads as reads
 use Rattle.typing.proofs.Sentence.take.Lts as lts
 use Rattle.steps.proofs.count_of.Reads as count-of-reads
 use Rattle.typing.proofs.Sentence.admit.Reads as admit-reads
-use Rattle.typing.proofs.Sentence.refuse.Reads as refuse-reads
+use Rattle.typing.proofs.Sentence.advance.Reads as advance-reads
+use Rattle.typing.proofs.refuse.Reads as refuse-reads
 use Rattle.typing.proofs.next_state.Reads as next-state-reads
 use Rattle.typing.proofs.put_step.Reads as put-step-reads
 
@@ -41,6 +42,24 @@ returns c =
 enum-told : tie.Need-enum-told
 enum-told c = search needs
 
+next-state-requires : tie.Need-next-state-requires
+next-state-requires c κs =
+    let told = c in
+    let call = told .before .before in
+    let start = call .before .before .before in
+    let a = start .args in
+    let go = admission-admitted (admits (a .self) (a .k) (a .s) (a .tag)) (call .admit .result) (told .enum-told .given .1) (call .admit .ensures) in
+    (take-base (a .table .now) (a .self) (a .tag) (a .out .now) (a .k) (a .s) (a .e) (start .pre) go, start .pre .valid .tags-most)
+
+advance-requires : tie.Need-advance-requires
+advance-requires c κs =
+    let told = c .before in
+    let call = told .before .before in
+    let start = call .before .before .before in
+    let a = start .args in
+    let go = admission-admitted (admits (a .self) (a .k) (a .s) (a .tag)) (call .admit .result) (told .enum-told .given .1) (call .admit .ensures) in
+    is-taken (a .table .now) (a .self) (a .tag) (a .out .now) (a .k) (a .s) (a .e) (start .pre) go .short
+
 count-of-requires : tie.Need-count-of-requires
 count-of-requires c κs = search needs
 
@@ -49,8 +68,7 @@ refuse-requires-2 c κs = search needs
 
 returns-2 : tie.Need-returns-2
 returns-2 c =
-    let count = c .before .before in
-    let told = count .before in
+    let told = c .before .before .before .before .before in
     let call = told .before .before in
     let start = call .before .before .before in
     let a = start .args in
@@ -60,45 +78,28 @@ returns-2 c =
 
 put-step-requires : tie.Need-put-step-requires
 put-step-requires c κs =
-    let count = c .before .before in
-    let told = count .before in
+    let told = c .before .before .before .before .before in
     let call = told .before .before in
     let start = call .before .before .before in
     let a = start .args in
     let go = admission-admitted (admits (a .self) (a .k) (a .s) (a .tag)) (call .admit .result) (told .enum-told .given .1) (call .admit .ensures) in
     (take-place (a .table .now) (a .self) (a .tag) (a .out .now) (a .k) (a .s) (a .e) (start .pre) go, omega arith)
 
-next-state-requires : tie.Need-next-state-requires
-next-state-requires c κs =
-    let told = c .before .before .before .before .before .before in
-    let call = told .before .before in
-    let start = call .before .before .before in
-    let a = start .args in
-    let go = admission-admitted (admits (a .self) (a .k) (a .s) (a .tag)) (call .admit .result) (told .enum-told .given .1) (call .admit .ensures) in
-    (take-base (a .table .now) (a .self) (a .tag) (a .out .now) (a .k) (a .s) (a .e) (start .pre) go, start .pre .read .valid .tags-most)
-
-add-t17 : tie.Need-add-t17
-add-t17 c =
-    let told = c .before .before .before .before .before .before .before .before in
-    let call = told .before .before in
-    let start = call .before .before .before in
-    let a = start .args in
-    let go = admission-admitted (admits (a .self) (a .k) (a .s) (a .tag)) (call .admit .result) (told .enum-told .given .1) (call .admit .ensures) in
-    omega (arith, is-taken (a .table .now) (a .self) (a .tag) (a .out .now) (a .k) (a .s) (a .e) (start .pre) go .short)
-
 same-length : tie.Need-same-length
 same-length c = search needs
 
 returns-3 : tie.Need-returns-3
 returns-3 c =
-    let put = c .before .before .before .before in
+    let put = c .before .before in
     let count = put .before .before .before in
-    let told = count .before in
+    let after = count .before in
+    let next = after .before in
+    let told = next .before in
     let call = told .before .before in
     let start = call .before .before .before in
     let a = start .args in
     let go = admission-admitted (admits (a .self) (a .k) (a .s) (a .tag)) (call .admit .result) (told .enum-told .given .1) (call .admit .ensures) in
-    take-done (a .table .now) (a .self) (a .tag) (a .out .now) (a .k) (a .s) (a .e) (start .pre) go (omega arith) (put .put-step .last .1 .1 .0) (c .before .next-state .result) (count .count-of .result) (search needs) (c .before .next-state .ensures) (put .put-step .ensures)
+    take-done (a .table .now) (a .self) (a .tag) (a .out .now) (a .k) (a .s) (a .e) (start .pre) go (omega arith) (put .put-step .last .1 .1 .0) (next .next-state .result) (count .count-of .result) (after .advance .result) (search needs) (next .next-state .ensures) (after .advance .ensures) (put .put-step .ensures)
 
 pub take-spec : {M : Type 1} → statement M
 take-spec =
@@ -109,11 +110,11 @@ take-spec =
     refuse-requires
     returns
     enum-told
+    next-state-requires
+    advance-requires
     count-of-requires
     refuse-requires-2
     returns-2
     put-step-requires
-    next-state-requires
-    add-t17
     same-length
     returns-3)

@@ -1,0 +1,71 @@
+-- The definitions computed on examples that were worked out by hand, over the table of document 01's book A: 0 1 → 1 1. Its state 1 holds
+-- a 0, and puts out 1 1 on a 1.
+use Prim.Native.Nat.{ℕ}
+use mathlib.Core.Path.{_≡_, refl}
+use mathlib.Core.Bool.{true, false}
+use mathlib.Core.List.{List, [], _∷_}
+use Rattle.answers.specs.Outcome.{result, refused, nothing}
+use Rattle.typing.specs.Typing.{opened, give, look, close}
+use Rattle.typing.specs.Session.{gives, looks, closes, session}
+use Rattle.typing.specs.declared.Sentence.{Sentence}
+
+abbrev table-a : List ℕ
+table-a =
+    0x30 ∷ 2 ∷ 0 ∷ 3
+    ∷ 0x31 ∷ 0 ∷ 0x33 ∷ 0 ∷ 1 ∷ 0x33 ∷ 0 ∷ 0 ∷ 0x34 ∷ 1
+    ∷ 0x31 ∷ 1 ∷ 0x32 ∷ 0 ∷ 0x33 ∷ 0 ∷ 1 ∷ 0x34 ∷ 0 ∷ 0x33 ∷ 0 ∷ 2 ∷ 0x34 ∷ 1 ∷ 0x34 ∷ 1
+    ∷ 0x31 ∷ 0 ∷ 0x33 ∷ 0 ∷ 2 ∷ 0x34 ∷ 0 ∷ 0x33 ∷ 0 ∷ 2 ∷ 0x34 ∷ 1 ∷ 0 ∷ []
+
+abbrev at : ℕ → ℕ → Sentence
+at state given = record { state = state; given = given; closed = false }
+
+opens : opened table-a ≡ result (at 0 0)
+opens = refl
+
+-- 0 0 1 0 1 with a look, a wrong tag, a give without room and one after the close between: 0 1 1 0 1, as document 01 says
+typed :
+    session table-a (at 0 0)
+    (gives 0 0
+    ∷ looks 1
+    ∷ gives 0 1
+    ∷ gives 2 9
+    ∷ gives 1 1
+    ∷ gives 1 2
+    ∷ looks 0
+    ∷ gives 0 1
+    ∷ gives 1 1
+    ∷ closes 0
+    ∷ gives 0 9
+    ∷ closes 9
+    ∷ [])
+    ≡ record {
+      sentence = record { state = 2; given = 5; closed = true };
+      taken = 0 ∷ 0 ∷ 1 ∷ 0 ∷ 1 ∷ [];
+      out = 0 ∷ 1 ∷ 1 ∷ 0 ∷ 1 ∷ [];
+    }
+typed = refl
+
+-- a 0 that is held is what a look shows and what a close puts out
+shows : look table-a (at 1 1) 1 ≡ record { sentence = at 1 1; put = result (0 ∷ []) }
+shows = refl
+
+closes-with-it : close table-a (at 1 1) 1 ≡ record { sentence = record { state = 1; given = 1; closed = true }; put = result (0 ∷ []) }
+closes-with-it = refl
+
+-- 65,534 tags given and 65,535; a state that is S; closed and such a state; no table
+last-tag : give table-a (at 2 65534) 1 1 ≡ record { sentence = at 2 65535; put = result (1 ∷ []) }
+last-tag = refl
+
+too-many : give table-a (at 2 65535) 9 0 ≡ record { sentence = at 2 65535; put = refused 13 nothing }
+too-many = refl
+
+no-state : give table-a (at 3 65535) 9 0 ≡ record { sentence = at 3 65535; put = refused 16 nothing }
+no-state = refl
+
+closed-first :
+    close table-a (record { state = 3; given = 0; closed = true }) 0
+    ≡ record { sentence = record { state = 3; given = 0; closed = true }; put = refused 15 nothing }
+closed-first = refl
+
+no-table : look (0x30 ∷ []) (record { state = 3; given = 0; closed = true }) 0 .put ≡ refused 12 nothing
+no-table = refl
