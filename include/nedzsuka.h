@@ -7,7 +7,7 @@
 
    Which call is for what: nedzsuka_run_book for a book that is still edited; nedzsuka_run_table for a table that is used once;
    nedzsuka_load_table, once, and then nedzsuka_run_loaded for a table that is run on every sentence; nedzsuka_open, nedzsuka_give,
-   nedzsuka_look and nedzsuka_close for a sentence that is still typed, through struct nedzsuka_sentence below.
+   nedzsuka_look and nedzsuka_close for a sentence that is still being typed, through struct nedzsuka_sentence below.
 
    A slice that holds several sentences, a paragraph, is for nedzsuka_compile_ending and nedzsuka_run_book_ending: they take an end tag,
    the number of the full stop. The slice is cut after each end tag, the rules are applied to each piece by itself, and the pieces are
@@ -25,10 +25,10 @@
    - The other slices are only read, the work slice of compile excepted.
    - It allocates nothing and keeps nothing from one call to the next: several threads may call at once, each with output and work
      slices of its own, and typed sentences of its own. One table, loaded or not, serves several threads, since running it only reads it.
-   - Of the stack nedzsuka_run_table, nedzsuka_read_table and nedzsuka_load_table take less than 2,000 bytes if S * (K + 1) is at most
-     192, some 10,400 if it is at most 1,024, some 35,000 if it is at most 4,096, else some 102,500; nedzsuka_run_loaded less than 1,000
-     for a sentence of at most 256 tags, some 2,900 for one of at most 2,048, else some 66,400; nedzsuka_open, nedzsuka_give,
-     nedzsuka_look and nedzsuka_close what nedzsuka_run_table takes for the same table; the other calls less than 1,200.
+   - Of the stack nedzsuka_run_table, nedzsuka_read_table, nedzsuka_load_table, nedzsuka_open, nedzsuka_give, nedzsuka_look and
+     nedzsuka_close take less than 2,200 bytes if S * (K + 1) is at most 192, some 10,600 if it is at most 1,024, some 35,200 if it is at
+     most 4,096, else some 102,700; nedzsuka_run_loaded less than 1,000 for a sentence of at most 256 tags, some 2,900 for one of at most
+     2,048, else some 66,400; the other calls less than 1,200.
 
    What is asked of the caller
    - A pointer reaches as many entries as the length beside it says. It may be null only where that length is 0.
