@@ -24,9 +24,8 @@ use Rattle.books.proofs.Refusal.{BookRefusal, book-refusal}
 use Rattle.books.proofs.Encode.{reads-exactly}
 use Rattle.tagger.specs.Run.{bookRun}
 use Rattle.transducers.specs.Transducer.{puts}
-use Rattle.transducers.specs.Table.{Step, Table, shape}
+use Rattle.transducers.specs.Table.{Table, shape}
 use Rattle.minimal.specs.TableOf.{tableOf}
-use Rattle.tables.specs.Valid.{ValidTable}
 use Rattle.tables.specs.Bytes.{encode}
 use Rattle.tables.specs.Decode.{Decoded, decode}
 use Rattle.tables.specs.Run.{Size, sizeOf, tableRun}
@@ -34,10 +33,6 @@ use Rattle.tables.proofs.Theorem.{decoded}
 use Rattle.tables.proofs.Outcomes.{Read, gave, refuses, read-decode, valid-length}
 use Rattle.decoder.specs.Answer.{tableOutcome}
 use Rattle.decoder.specs.declared.TableAnswer.{TableAnswer}
-use Rattle.typing.specs.Typing.{opened, held, moved, give, close}
-use Rattle.typing.specs.declared.Sentence.{Sentence}
-use Rattle.typing.proofs.Ends.{GiveEnds, HoldEnds, give-ends, hold-ends}
-use Rattle.typing.proofs.Theorems.{look-is-close}
 use Rattle.loaded.specs.Numbers.{numbers}
 use Rattle.loaded.specs.Run.{way, sound, loadedRun, loadAnswer}
 use Rattle.loaded.proofs.Refusal.{way-read}
@@ -47,7 +42,6 @@ use Rattle.compilation.proofs.Answer.{Told, fits, exceeds, told, table-valid, T
 use Rattle.compilation.proofs.Parts.{whole-few}
 use Rattle.packing.specs.Packed.{Legible, LegibleByte}
 use Rattle.nedzsuka.specs.Sizes.{bookSize, bookSizes, tableSize, tableSizes}
-use Rattle.nedzsuka.specs.Typing.{openedAs}
 
 -- 12, and what 11 is given for
 malformed-told : Legible (refused 12 nothing)
@@ -179,50 +173,7 @@ module _ (table : List ℕ) (bytes : Below 0x100 table) where
           let few : length ns < 2 ^ 56 = omega (arith, numbers-few (d .tags) (d .table) v, valid-length (d .tags) (d .table) v) in
           subst (λ (x : Outcome Decoded). Legible (after x)) (sym e) (legible-fitting ns few (leb (length ns) room))
       by (refuses e) = subst (λ (x : Outcome Decoded). Legible (after x)) (sym e) malformed-told
-
-  -- ---- of typing
-
-  module _ (s : Sentence) (room : ℕ) where
-    pub legible-give : (a : ℕ) → Legible (longOf (give table s a room .put))
-    legible-give a = by (read-decode table)
-      where
-        ends : (d : Decoded) → ValidTable (d .tags) (d .table) → {o : Outcome Step} → GiveEnds d s a room o → Legible (longOf (moved s o .put))
-        ends d v GiveEnds.was-closed = (omega arith, omega arith, λ e. omega arith)
-        ends d v (GiveEnds.no-state h) = (omega arith, omega arith, λ e. omega arith)
-        ends d v (GiveEnds.too-many h) = (omega arith, omega arith, λ e. omega arith)
-        ends d v (GiveEnds.no-tag h) = bare 4 (omega arith) (omega arith)
-        ends d v (GiveEnds.no-room t h) = (omega arith, omega arith, λ e. omega arith)
-        ends d v (GiveEnds.gave t) =
-            omega (arith, v .balanced (s .state) a (t .inside) (t .below), v .held (s .state) (t .inside))
-
-        by : Read (decode table) → Legible (longOf (give table s a room .put))
-        by (gave d e) = ends d (decoded table d bytes e .0) (give-ends table d e s a room)
-        by (refuses e) = rw e malformed-told
-
-    pub legible-held : Legible (longOf (held table s room))
-    legible-held = by (read-decode table)
-      where
-        ends : (d : Decoded) → ValidTable (d .tags) (d .table) → {o : Outcome (List ℕ)} → HoldEnds d s room o → Legible (longOf o)
-        ends d v HoldEnds.was-closed = (omega arith, omega arith, λ e. omega arith)
-        ends d v (HoldEnds.no-state h) = (omega arith, omega arith, λ e. omega arith)
-        ends d v (HoldEnds.no-room t h) = (omega arith, omega arith, λ e. omega arith)
-        ends d v (HoldEnds.held-out f t) = omega (arith, v .held (s .state) t)
-
-        by : Read (decode table) → Legible (longOf (held table s room))
-        by (gave d e) = ends d (decoded table d bytes e .0) (hold-ends table d e s room)
-        by (refuses e) = rw e malformed-told
-
-    pub legible-close : Legible (longOf (close table s room .put))
-    legible-close = subst (λ (o : Outcome (List ℕ)). Legible (longOf o)) (look-is-close table s room) legible-held
-
-pub legible-open : (table : List ℕ) → Legible (openedAs (opened table))
-legible-open table = by (read-decode table)
-  where
-    by : Read (decode table) → Legible (openedAs (opened table))
-    by (gave d e) = rw e (omega arith)
-    by (refuses e) = rw e malformed-told
-
--- ---- of compile
+      -- ---- of compile
 
 module _ (book : List ℕ) (end n work room : ℕ) where
   pub legible-compile : Legible (longOf (compileAnswer book end n work room))

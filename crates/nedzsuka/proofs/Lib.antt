@@ -1,6 +1,5 @@
 -- The functions for C: their numbers tell every outcome, and the demands about them.
 pub mod Legible
-pub mod Handing
 pub mod Demand
 pub mod Loaded
 pub mod Typing

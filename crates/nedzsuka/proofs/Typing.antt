@@ -19,8 +19,8 @@ use Rattle.typing.specs.Typing.{Handed, opened, give, look, close}
 use Rattle.typing.specs.Session.{Call, gives, looks, closes, call, takes, brings, Session, proceed, proceeds, session}
 use Rattle.typing.specs.declared.Sentence.{Sentence}
 use Rattle.typing.proofs.Theorems.{closed-is-run, looked-is-run}
-use Rattle.nedzsuka.specs.Typing.{Numbers, sentenceOf, flag, numbersOf, handedOn, openedAs, openedOn, TypeCall}
-use Rattle.nedzsuka.proofs.Legible.{legible-open, legible-give, legible-held, legible-close}
+use Rattle.handing.specs.Typing.{Numbers, sentenceOf, flag, numbersOf, handedOn, openedAs, openedOn, TypeCall}
+use Rattle.handing.proofs.Legible.{legible-open, legible-give, legible-held, legible-close}
 use Rattle.nedzsuka.proofs.Demand.{CompileCall, RunCall, made-counted, means-result, same-run}
 
 -- what the contract of nedzsuka_open says, and that of nedzsuka_look

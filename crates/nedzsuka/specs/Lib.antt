@@ -1,3 +1,2 @@
--- What reading a book or a table answers to C, and an open sentence as C has it.
+-- What reading a book or a table answers to C.
 pub mod Sizes
-pub mod Typing

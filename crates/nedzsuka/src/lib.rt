@@ -4,6 +4,8 @@
 use answers::WriteAnswer;
 use books::BookAnswer;
 use decoder::TableAnswer;
+use handing::hand_on;
+use handing::sentence_of;
 use packing::pack;
 use packing::pack_byte;
 use packing::pack_compile;
@@ -18,17 +20,16 @@ ghost use mathlib.Core.Path.{_≡_};
 ghost use lib.ListN.{length};
 ghost use Rattle.limits.specs.Limits.{no-end};
 ghost use Rattle.answers.specs.Slice.{longOf, written};
-ghost use Rattle.answers.specs.Answer.{writeOutcome};
 ghost use Rattle.sentences.specs.Run.{changed};
 ghost use Rattle.tagger.specs.Run.{bookRun};
 ghost use Rattle.tables.specs.Run.{tableRun};
 ghost use Rattle.loaded.specs.Run.{loadedRun, loadAnswer};
 ghost use Rattle.compilation.specs.Compile.{tested, compileAnswer};
 ghost use Rattle.compiler.specs.Answer.{worked};
-ghost use Rattle.packing.specs.Packed.{packed, packedByte, Legible};
+ghost use Rattle.packing.specs.Packed.{packed, packedByte};
 ghost use Rattle.typing.specs.Typing.{opened, give, look, close};
+ghost use Rattle.handing.specs.Typing.{sentenceOf, openedAs, openedOn, TypeCall};
 ghost use Rattle.nedzsuka.specs.Sizes.{bookSizes, tableSizes};
-ghost use Rattle.nedzsuka.specs.Typing.{sentenceOf, flag, handedOn, openedAs, openedOn, TypeCall};
 
 // compiler::compile_ending: the number of the table's bytes, or the refusal.
 #[no_mangle]
@@ -137,44 +138,6 @@ pub extern "C" fn nedzsuka_read_table(table: &[u8]) -> u64
         TableAnswer::Table { tags, states } => pack(tags * 65536 + states, 0),
         TableAnswer::Refused(given) => pack_refusal(given),
     }
-}
-
-// The sentence that three numbers are.
-fn sentence_of(state: u64, given: u64, closed: u64) -> Sentence
-    ensures { λ r. ⌜ r ≡ sentenceOf (record { state = state; given = given; closed = closed }) ⌝ }
-{
-    Sentence {
-        state: state as usize,
-        given: given as usize,
-        closed: closed != 0,
-    }
-}
-
-// Whether a sentence is closed, as a number.
-fn flag_of(closed: bool) -> u64
-    ensures { λ r. ⌜ r ≡ flag closed ⌝ }
-{
-    if closed {
-        return 1;
-    }
-    0
-}
-
-// The answer as a number, and the three numbers of the sentence that is handed back; on a refusal they stay.
-fn hand_on(typed: Typed, state: &mut u64, given: &mut u64, closed: &mut u64) -> u64
-    requires { ⌜ Legible (writeOutcome (typed .answer)) ⌝ }
-    ensures answer { λ r. ⌜ r ≡ packed (writeOutcome (typed .answer)) ⌝ }
-    ensures numbers { λ r. ⌜ (record { state = now (state .exit); given = now (given .exit); closed = now (closed .exit) }) ≡ handedOn (writeOutcome (typed .answer)) (typed .sentence) (record { state = now (state .entry); given = now (given .entry); closed = now (closed .entry) }) ⌝ }
-{
-    let answer = typed.answer;
-    let WriteAnswer::Written(_) = answer else {
-        return pack_written(answer);
-    };
-    let sentence = typed.sentence;
-    *state = sentence.state as u64;
-    *given = sentence.given as u64;
-    *closed = flag_of(sentence.closed);
-    pack_written(answer)
 }
 
 // Sentence::open: 0, or 12.

@@ -80,7 +80,7 @@ fn run_loaded(table: &[u8], k: usize, index: &[u64], sentence: &[u8], out: &mut 
     RunAnswer::Changed(sentences::count_changes(sentence, &out[..n]))
 }
 
-// What is asked of a table that is read, and lives no longer than its index: its run over a sentence, and the entry of a cell.
+// What a table tells while its index is there: its run over a sentence, and the entry of one cell.
 pub struct Told {
     pub answer: RunAnswer,
     pub entry: u64,

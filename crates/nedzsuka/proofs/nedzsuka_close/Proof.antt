@@ -6,14 +6,14 @@ use lib.ListN.{length}
 use Rattle.tables.proofs.Words.{below-of}
 use Rattle.typing.specs.Typing.{close, Hands}
 use Rattle.typing.specs.declared.Sentence.{Sentence}
-use Rattle.nedzsuka.proofs.Legible.{legible-close}
-use Rattle.nedzsuka.proofs.Handing.{legible-typed, type-call}
+use Rattle.handing.proofs.Legible.{legible-close}
+use Rattle.handing.proofs.Handing.{legible-typed, type-call}
 use Rattle.nedzsuka.proofs.nedzsuka_close.Statement.{statement}
 use Rattle.nedzsuka.proofs.nedzsuka_close.Tie as tie
 use Rattle.nedzsuka.proofs.nedzsuka_close.Reads as reads
 use Rattle.nedzsuka.proofs.nedzsuka_close.Lts as lts
-use Rattle.nedzsuka.proofs.hand_on.Reads as hand-on-reads
-use Rattle.nedzsuka.proofs.sentence_of.Reads as sentence-of-reads
+use Rattle.handing.proofs.hand_on.Reads as hand-on-reads
+use Rattle.handing.proofs.sentence_of.Reads as sentence-of-reads
 use Rattle.typing.proofs.Sentence.close.Reads as close-reads
 
 sentence-of-requires : tie.Need-sentence-of-requires

@@ -7,13 +7,13 @@ use Rattle.tables.proofs.Words.{below-of}
 use Rattle.packing.specs.Packed.{packed}
 use Rattle.typing.specs.Typing.{look, Hands}
 use Rattle.typing.specs.declared.Sentence.{Sentence}
-use Rattle.nedzsuka.proofs.Legible.{legible-held}
-use Rattle.nedzsuka.proofs.Handing.{legible-typed}
+use Rattle.handing.proofs.Legible.{legible-held}
+use Rattle.handing.proofs.Handing.{legible-typed}
 use Rattle.nedzsuka.proofs.nedzsuka_look.Statement.{statement}
 use Rattle.nedzsuka.proofs.nedzsuka_look.Tie as tie
 use Rattle.nedzsuka.proofs.nedzsuka_look.Reads as reads
 use Rattle.nedzsuka.proofs.nedzsuka_look.Lts as lts
-use Rattle.nedzsuka.proofs.sentence_of.Reads as sentence-of-reads
+use Rattle.handing.proofs.sentence_of.Reads as sentence-of-reads
 use Rattle.packing.proofs.pack_written.Reads as pack-written-reads
 use Rattle.typing.proofs.Sentence.look.Reads as look-reads
 

@@ -1,11 +1,11 @@
 -- `nedzsuka::nedzsuka_open` meets its contract.
 use borrow.Author.Needs.{needs}
-use Rattle.nedzsuka.proofs.Handing.{open-done, legible-refused, open-refused}
+use Rattle.handing.proofs.Handing.{open-done, legible-refused, open-refused}
 use Rattle.nedzsuka.proofs.nedzsuka_open.Statement.{statement}
 use Rattle.nedzsuka.proofs.nedzsuka_open.Tie as tie
 use Rattle.nedzsuka.proofs.nedzsuka_open.Reads as reads
 use Rattle.nedzsuka.proofs.nedzsuka_open.Lts as lts
-use Rattle.nedzsuka.proofs.hand_on.Reads as hand-on-reads
+use Rattle.handing.proofs.hand_on.Reads as hand-on-reads
 use Rattle.packing.proofs.pack_refusal.Reads as pack-refusal-reads
 use Rattle.typing.proofs.Sentence.open.Reads as open-reads
 

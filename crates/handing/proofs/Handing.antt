@@ -14,8 +14,8 @@ use Rattle.typing.specs.Typing.{Handed, opened, openOutcome, Hands}
 use Rattle.typing.specs.declared.Sentence.{Sentence}
 use Rattle.typing.specs.declared.Opened.{Opened}
 use Rattle.typing.specs.declared.Typed.{Typed}
-use Rattle.nedzsuka.specs.Typing.{Numbers, flag, handedOn, openedAs, openedOn, TypeCall}
-use Rattle.nedzsuka.proofs.Legible.{legible-open}
+use Rattle.handing.specs.Typing.{Numbers, flag, handedOn, openedAs, openedOn, TypeCall}
+use Rattle.handing.proofs.Legible.{legible-open}
 
 -- ---- what is handed on
 

@@ -1,11 +1,11 @@
--- `nedzsuka::hand_on` meets its contract.
+-- `handing::hand_on` meets its contract.
 use borrow.Author.Needs.{needs}
-use Rattle.nedzsuka.proofs.Handing.{hand-refused, hand-written}
-use Rattle.nedzsuka.proofs.hand_on.Statement.{statement}
-use Rattle.nedzsuka.proofs.hand_on.Tie as tie
-use Rattle.nedzsuka.proofs.hand_on.Reads as reads
-use Rattle.nedzsuka.proofs.hand_on.Lts as lts
-use Rattle.nedzsuka.proofs.flag_of.Reads as flag-of-reads
+use Rattle.handing.proofs.Handing.{hand-refused, hand-written}
+use Rattle.handing.proofs.hand_on.Statement.{statement}
+use Rattle.handing.proofs.hand_on.Tie as tie
+use Rattle.handing.proofs.hand_on.Reads as reads
+use Rattle.handing.proofs.hand_on.Lts as lts
+use Rattle.handing.proofs.flag_of.Reads as flag-of-reads
 use Rattle.packing.proofs.pack_written.Reads as pack-written-reads
 
 enum-told : tie.Need-enum-told

@@ -1,0 +1,2 @@
+-- An open sentence as three numbers.
+pub mod Typing
