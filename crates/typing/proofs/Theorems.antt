@@ -33,7 +33,7 @@ look-is-close table s room = by (held table s room)
     by (result w) = refl
     by (refused n p) = refl
 
--- what a call says of a refusal with this number
+-- a give is refused as its step is
 put-refused : (s : Sentence) (o : Outcome Step) (n : ℕ) (p : Place) → moved s o .put ≡ refused n p → o ≡ refused n p
 put-refused s (result v) n p e = let z : _≡_ {A = ℕ} 0 1 = cc in absurd (omega arith)
 put-refused s (refused m q) n p e = cc

@@ -30,7 +30,7 @@ hand-on-requires c κs =
     let a = known .before .args in
     let sentence = of .sentence-of .result in
     let bytes = below-of 0x100 (a .table .now) (λ i. omega (arith, known .shared-slice-known .given i)) in
-    legible-typed _ _ _ (call .give .result) (call .give .ensures) (legible-give (a .table .now) bytes sentence (length (a .out .now)) (a .tag))
+    legible-typed _ _ _ (call .give .result) (call .give .ensures) (legible-give (a .table .now) bytes sentence (length (a .out .now)) _)
 
 same-length : tie.Need-same-length
 same-length c = search needs
