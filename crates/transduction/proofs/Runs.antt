@@ -55,9 +55,6 @@ module _ (bs sentence out : List ℕ) where
   pub run-malformed : decode bs ≡ malformed → Ran outcome sentence out out (Refused (Bare 12))
   run-malformed e = ran-refused outcome sentence out (Bare 12) (rw e refl)
 
-  pub run-not-loaded : (k : ℕ) (ix : List ℕ) (r : Bool) → LoadedIf r bs k ix → r ≡ false → Ran outcome sentence out out (Refused (Bare 12))
-  run-not-loaded k ix r l e = run-malformed (rw e at l)
-
   module _ (k : ℕ) (ix : List ℕ) (u : Loaded bs k ix) (a : Admission) (f : (l : List ℕ) → admission a l ≡ run k sentence (length out) l) where
     abbrev m : List ℕ
     m = puts (shape (u .table)) 0 sentence

@@ -24,9 +24,6 @@ use Rattle.typing.specs.Typing.{opened, standing, admits}
 use Rattle.typing.specs.declared.Sentence.{Sentence}
 
 module _ (x : Sentence) (n : ℕ) where
-  pub stand-closed : x .closed ≡ true → refused 15 nothing ≡ standing x n
-  stand-closed e = rw e refl
-
   module _ (e : x .closed ≡ false) where
     pub stand-beyond : n ≤ x .state → refused 16 nothing ≡ standing x n
     stand-beyond h = rw (e, le-ltb (x .state) n h) refl
