@@ -1,9 +1,8 @@
 -- Every outcome of typing is legible: a number for C can tell it.
-use Prim.Native.Nat.{ℕ, _^_, _<_}
+use Prim.Native.Nat.{ℕ}
 use native.Mathlib.Omega.{arith}
-use mathlib.Core.Path.{_≡_, subst}
+use mathlib.Core.Path.{subst}
 use mathlib.Core.List.{List}
-use lib.ListN.{length}
 use Rattle.words.specs.Word.{Below}
 use Rattle.answers.specs.Outcome.{Outcome, refused, nothing}
 use Rattle.answers.specs.Slice.{longOf}

@@ -16,7 +16,7 @@ use Rattle.tagger.specs.Run.{bookRun}
 use Rattle.tables.specs.Run.{tableRun}
 use Rattle.packing.specs.Packed.{packed, Legible}
 use Rattle.typing.specs.Typing.{Handed, opened, give, look, close}
-use Rattle.typing.specs.Session.{Call, gives, looks, closes, call, takes, brings, Session, proceed, proceeds, session}
+use Rattle.typing.specs.Session.{Call, gives, closes, call, takes, brings, Session, proceed, proceeds, session}
 use Rattle.typing.specs.declared.Sentence.{Sentence}
 use Rattle.typing.proofs.Theorems.{closed-is-run, looked-is-run}
 use Rattle.handing.specs.Typing.{Numbers, sentenceOf, flag, numbersOf, handedOn, openedAs, openedOn, TypeCall}

@@ -7,7 +7,7 @@ use mathlib.Core.Bool.{true, false}
 use mathlib.Core.List.{List, [], _∷_, _++_}
 use borrow.Author.Tests.{le-leb, lt-leb}
 use lib.Dec.{leb}
-use lib.ListN.{length, take, drop, take-append-drop}
+use lib.ListN.{length, drop, take-append-drop}
 use Rattle.answers.specs.Outcome.{Outcome, result, andThen, provided}
 use Rattle.answers.specs.Answer.{refusal}
 use Rattle.answers.proofs.Outcome.{refusal-then}

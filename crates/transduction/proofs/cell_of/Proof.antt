@@ -2,7 +2,7 @@
 use native.Mathlib.Omega.{arith}
 use borrow.Author.Needs.{needs}
 use mathlib.Core.Path.{refl}
-use Rattle.transduction.proofs.Runs.{first-cell, cell-inside, cell-small}
+use Rattle.transduction.proofs.Runs.{cell-inside, cell-small}
 use Rattle.transduction.proofs.cell_of.Statement.{statement}
 use Rattle.transduction.proofs.cell_of.Tie as tie
 use Rattle.transduction.proofs.cell_of.Reads as reads
