@@ -111,9 +111,30 @@ fn answer_sheet<'a>(sentence: &'a [u8], result: &'a [u8]) {
     put_bytes(spans::changed_span(sentence, result));
 }
 
-// Of `book` the second operand is empty.
+// The borders of all prefixes but the empty one.
+fn put_borders(borders: &[usize]) {
+    let mut j = 1;
+    while j < borders.len() {
+        put(b" ");
+        put_number(borders[j]);
+        j += 1;
+    }
+}
+
+fn answer_borders(pattern: &[u8])
+    requires { ⌜ length (now pattern) ≤ 4096 ⌝ }
+{
+    let mut borders = [0; 4097];
+    let count = borders::find_borders(pattern, &mut borders);
+    put(b" compared ");
+    put_number(count);
+    put(b" :");
+    put_borders(&borders[..pattern.len() + 1]);
+}
+
+// Of `book` and `borders` the second operand is empty.
 fn answer<'a>(call: Call, a: &'a [u8], b: &'a [u8])
-    requires { ⌜ length (now b) ≤ 70000 ⌝ }
+    requires { ⌜ (length (now a) ≤ 4096) × (length (now b) ≤ 70000) ⌝ }
 {
     match call {
         Call::Book => put_book(books::read_book(a)),
@@ -121,6 +142,7 @@ fn answer<'a>(call: Call, a: &'a [u8], b: &'a [u8])
         Call::Short => answer_short(a, b),
         Call::Long => answer_long(a, b),
         Call::Proof => answer_sheet(a, b),
+        Call::Borders => answer_borders(a),
     }
 }
 
@@ -160,6 +182,7 @@ fn answer_parts(call: Call, rest: &[u8]) {
 fn answer_call(call: Call, rest: &[u8]) {
     match call {
         Call::Book => answer_operands(call, rest, b""),
+        Call::Borders => answer_operands(call, rest, b""),
         _ => answer_parts(call, rest),
     }
 }

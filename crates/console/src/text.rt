@@ -27,6 +27,7 @@ pub enum Call {
     Short,
     Long,
     Proof,
+    Borders,
 }
 
 // What an operand reads as: so many bytes, or what is wrong with it.
@@ -50,6 +51,9 @@ pub fn read_word(text: &[u8]) -> Word {
     }
     if check::same(text, b"proof") {
         return Word::Known(Call::Proof);
+    }
+    if check::same(text, b"borders") {
+        return Word::Known(Call::Borders);
     }
     Word::Unknown
 }

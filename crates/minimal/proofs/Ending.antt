@@ -81,7 +81,7 @@ module _ (e : ℕ) (r : Rule) (free : before e (r .pattern) ≡ false) where
   reached j = overlap u (take j u ++ (e ∷ []))
 
   -- a part of the pattern that ends with the end tag is no part: it is nothing or all
-  none-matched : (j i : ℕ) → reached j ≡ i → i < length u → i ≡ 0
+  pub none-matched : (j i : ℕ) → reached j ≡ i → i < length u → i ≡ 0
   none-matched j zero is l = refl
   none-matched j (suc i) is l =
       let t = take j u ++ (e ∷ []) in

@@ -8,12 +8,11 @@ use mathlib.Core.Logic.{_⊎_, inl, inr}
 use mathlib.Core.List.{List, [], _∷_, _++_, append-nil, append-cancel-left}
 use mathlib.Core.Bool.{Bool, true, false}
 use lib.ListN.{length, take, drop, getD, set, length-append, length-drop, length-set, take-append-drop, drop-of-length-le}
-use lib.Seq.{take-all, take-take, take-append-seam, drop-append-seam, take-set-le, getD-set-same, getD-take, take-suc, drop-cons, length-take-le}
-use lib.Dec.{eqb}
+use lib.Seq.{take-all, take-take, drop-append-seam, take-set-le, getD-set-same, getD-take, take-suc, drop-cons, length-take-le}
 use Rattle.words.specs.Word.{prefix}
 use Rattle.words.specs.Front.{first}
 use Rattle.words.specs.Overlap.{overlap}
-use Rattle.words.proofs.Word.{below-suc, prefix-append, prefix-split, prefix-length}
+use Rattle.words.proofs.Word.{below-suc, prefix-append, prefix-split, prefix-left, prefix-take, prefix-length}
 use Rattle.words.proofs.Overlap.{overlap-le, overlap-prefix}
 use Rattle.cascades.specs.Rule.{Rule, replaced, ValidRule}
 use Rattle.cascades.specs.Rewrite.{rewrite, apply}
@@ -32,18 +31,6 @@ rewrite-front [] v x h = absurd (omega arith)
 rewrite-front (b ∷ u) v x h = rw (prefix-append (b ∷ u) x, rewrite) (ap (λ (l : List ℕ). v ++ l) (drop-append-seam (b ∷ u) x))
 
 -- the borders are a matcher of the words that begin u
-prefix-left : (z w u : List ℕ) → prefix (z ++ w) u ≡ true → prefix z u ≡ true
-prefix-left [] w u e = refl
-prefix-left (a ∷ z) w [] e = e
-prefix-left (a ∷ z) w (b ∷ u) e = by (eqb a b) (prefix-left z w u) e
-  where
-    by : (c : Bool) → (prefix (z ++ w) u ≡ true → prefix z u ≡ true) → elim c [ true ↦ prefix (z ++ w) u | false ↦ false ] ≡ true → elim c [ true ↦ prefix z u | false ↦ false ] ≡ true
-    by true f e = f e
-    by false f e = e
-
-prefix-take : (z u : List ℕ) → prefix z u ≡ true → z ≡ take (length z) u
-prefix-take z u e = sym (ap (take (length z)) (prefix-split z u e) ∙ take-append-seam z (drop (length z) u))
-
 prefix-whole : (m u : List ℕ) → prefix m u ≡ true → length m ≡ length u → m ≡ u
 prefix-whole m u e l = prefix-take m u e ∙ take-all (length m) u (omega arith)
 

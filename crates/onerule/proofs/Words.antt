@@ -11,13 +11,12 @@ use lib.Dec.{eqb}
 use lib.ListN.{length, set, take, drop, length-append, length-drop, length-take, length-set, drop-of-length-le}
 use lib.Seq.{drop-cons, getD-set-same, drop-set-lt, take-length, take-all, take-append-le, take-take, take-add, drop-at, length-take-le}
 use Rattle.words.specs.Overlap.{overlap}
-use Rattle.words.proofs.Overlap.{overlap-le}
 use Rattle.cascades.specs.Ending.{before}
 use Rattle.transducers.specs.Canonical.{Inside}
 use Rattle.minimal.specs.Matcher.{held}
 use Rattle.minimal.specs.OneRule.{borders, oneRule}
 use Rattle.minimal.proofs.Matcher.{held-in, held-all, said-after, said-match, said-on, moves-after}
-use Rattle.minimal.proofs.OneRule.{borders-move}
+use Rattle.minimal.proofs.OneRule.{borders-move, overlap-step}
 use Rattle.minimal.proofs.Ending.{quiet-rule}
 use Rattle.workspace.specs.declared.Grid.{Grid}
 use Rattle.workspace.specs.Entries.{OUTPUT, FINAL}
@@ -26,7 +25,6 @@ use Rattle.workspace.specs.Cells.{Fits}
 use Rattle.workspace.specs.Holds.{Roomy}
 use Rattle.workspace.proofs.Appending.{part-length}
 use Rattle.onerule.specs.Rule.{rule, goes, says, keeps, afresh, restarts}
-use Rattle.onerule.proofs.Borders.{matched, matched-length}
 
 part-lesser : (u : List ℕ) (p j : ℕ) → j ≤ length u → part (min p j) j u ≡ part p j u
 part-lesser u p j h = by (decLt p j)
@@ -44,28 +42,26 @@ part-part u p n j h hj =
     sym (ap (drop p) (take-add p n (take j u)) ∙ drop-at (take p (take j u)) (take n (drop p (take j u))) p (length-take-le p (take j u) (omega (arith, length-take-le j u hj))))
     ∙ ap (drop p) (take-take (p + n) j u h)
 
-module _ (u : List ℕ) (p b : ℕ) where
-  overlap-below : (j a : ℕ) → j < length u → (overlap u (matched u j a) ≤ j + 1) × (overlap u (matched u j a) ≤ length u)
-  overlap-below j a h = let o = overlap-le u (matched u j a) in (omega (arith, o .0, matched-length u j a h), o .1)
+-- the first j tags of u, and a after them
+abbrev matched : List ℕ → ℕ → ℕ → List ℕ
+matched u j a = take j u ++ (a ∷ [])
 
-  goes-is : (j a : ℕ) → j < length u → goes (rule u p b) j a ≡ overlap u (matched u j a)
+module _ (u : List ℕ) (p b : ℕ) where
+  goes-is : (j a : ℕ) → j < length u → goes u j a ≡ overlap u (matched u j a)
   goes-is j a h = borders-move u j a h
 
-  pub goes-le : (j a : ℕ) → j < length u → goes (rule u p b) j a ≤ j + 1
-  goes-le j a h = omega (arith, goes-is j a h, overlap-below j a h .0)
+  pub goes-le : (j a : ℕ) → j < length u → goes u j a ≤ j + 1
+  goes-le j a h = omega (arith, goes-is j a h, overlap-step u j a h .0)
 
-  pub goes-overlap : (j a n : ℕ) → j < length u → n ≡ overlap u (matched u j a) → n ≡ goes (rule u p b) j a
-  goes-overlap j a n h e = e ∙ sym (goes-is j a h)
-
-  pub goes-end : (j a : ℕ) → j ≡ length u → j ≡ goes (rule u p b) j a
+  pub goes-end : (j a : ℕ) → j ≡ length u → j ≡ goes u j a
   goes-end j a e = sym (moves-after u p b (borders u) j a e)
 
-  pub goes-below : (j a : ℕ) → j ≤ length u → goes (rule u p b) j a ≤ length u
+  pub goes-below : (j a : ℕ) → j ≤ length u → goes u j a ≤ length u
   goes-below j a h = by (ℕ-discrete j (length u))
     where
-      by : Dec (j ≡ length u) → goes (rule u p b) j a ≤ length u
+      by : Dec (j ≡ length u) → goes u j a ≤ length u
       by (yes e) = omega (arith, goes-end j a e)
-      by (no g) = let l : j < length u = omega arith in omega (arith, goes-is j a l, overlap-below j a l .1)
+      by (no g) = let l : j < length u = omega arith in omega (arith, goes-is j a l, overlap-step u j a l .1)
 
   held-part : (j : ℕ) → j < length u → keeps (rule u p b) j ≡ part p j u
   held-part j h = held-in u p b j h
@@ -79,7 +75,7 @@ module _ (u : List ℕ) (p b : ℕ) where
   pub says-end : (j a : ℕ) → j ≡ length u → a ∷ [] ≡ says (rule u p b) j a
   says-end j a e = sym (said-after u p b j a (overlap u (matched u j a)) e)
 
-  module _ (j a next : ℕ) (h : j < length u) (to : next ≡ goes (rule u p b) j a) where
+  module _ (j a next : ℕ) (h : j < length u) (to : next ≡ goes u j a) where
     next-is : next ≡ overlap u (matched u j a)
     next-is = to ∙ goes-is j a h
 
@@ -94,7 +90,7 @@ module _ (u : List ℕ) (p b : ℕ) where
     says-back : (next ≡ length u → ⊥)
         → says (rule u p b) j a ≡ take (suc (length (part p j u)) - length (part p next u)) (part p j u ++ (a ∷ []))
     says-back e =
-        let short : next < length u = omega (arith, e, next-is, overlap-below j a h .1) in
+        let short : next < length u = omega (arith, e, next-is, overlap-step u j a h .1) in
         let i = overlap u (matched u j a) in
         said-on u p b j a i h (omega (arith, next-is))
         ∙ ap₂ (λ (x y : List ℕ). take (suc (length x) - length y) (x ++ (a ∷ []))) (held-part j h) (ap (λ (q : ℕ). keeps (rule u p b) q) (sym next-is) ∙ held-part next short)
@@ -154,10 +150,10 @@ module _ (u : List ℕ) (p b : ℕ) where
     output-afresh j a h = by (eqb a e) refl
       where
         by : (t : Bool) → eqb a e ≡ t
-            → says (rule u p b) j a ≡ elim t as (λ x. List ℕ) [ true ↦ says (rule u p b) j a ++ keeps (rule u p b) (goes (rule u p b) j a) | false ↦ says (rule u p b) j a ]
+            → says (rule u p b) j a ≡ elim t as (λ x. List ℕ) [ true ↦ says (rule u p b) j a ++ keeps (rule u p b) (goes u j a) | false ↦ says (rule u p b) j a ]
         by true f =
-            let none : keeps (rule u p b) (goes (rule u p b) j a) ≡ [] =
-            subst (λ (x : ℕ). keeps (rule u p b) (goes (rule u p b) j x) ≡ []) (sym (eqb-true a e f)) (quiet-rule e (rule u p b) free j h)
+            let none : keeps (rule u p b) (goes u j a) ≡ [] =
+            subst (λ (x : ℕ). keeps (rule u p b) (goes u j x) ≡ []) (sym (eqb-true a e f)) (quiet-rule e (rule u p b) free j h)
             in
             sym (ap (λ (l : List ℕ). says (rule u p b) j a ++ l) none ∙ append-nil (says (rule u p b) j a))
         by false f = refl
@@ -170,10 +166,10 @@ module _ (u : List ℕ) (p b : ℕ) where
           finals = roomy .finals;
         }
 
-    pub restarts-below : (j a : ℕ) → j ≤ length u → restarts e a (goes (rule u p b) j a) ≤ length u
+    pub restarts-below : (j a : ℕ) → j ≤ length u → restarts e a (goes u j a) ≤ length u
     restarts-below j a h = by (eqb a e)
       where
-        by : (t : Bool) → elim t as (λ x. ℕ) [ true ↦ 0 | false ↦ goes (rule u p b) j a ] ≤ length u
+        by : (t : Bool) → elim t as (λ x. ℕ) [ true ↦ 0 | false ↦ goes u j a ] ≤ length u
         by true = omega arith
         by false = goes-below j a h
 

@@ -1,27 +1,30 @@
 -- A rule whose transducer is to be written to the work slice.
 use Prim.Native.Nat.{ℕ, _+_, _-_, _≤_, _<_}
+use mathlib.Core.Path.{_≡_}
 use mathlib.Core.Bool.{true, false}
 use mathlib.Core.List.{List}
 use lib.Dec.{eqb}
 use lib.ListN.{length}
 use Rattle.words.specs.Pieces.{piecewise}
+use Rattle.borders.specs.Border.{border}
 use Rattle.cascades.specs.Rule.{Rule, ValidRule}
 use Rattle.cascades.specs.Rewrite.{apply}
 use Rattle.transducers.specs.Transducer.{Shape}
 use Rattle.transducers.specs.Tabulate.{Any}
 use Rattle.transducers.specs.Ended.{ended}
-use Rattle.minimal.specs.OneRule.{oneRule}
+use Rattle.minimal.specs.Matcher.{moves}
+use Rattle.minimal.specs.OneRule.{borders, oneRule}
 use Rattle.workspace.specs.declared.Grid.{Grid}
-use Rattle.workspace.specs.Entries.{FINAL}
-use Rattle.workspace.specs.Cells.{Sized, Kept, In-rows}
+use Rattle.workspace.specs.Entries.{NEXT, FINAL}
+use Rattle.workspace.specs.Cells.{at, Sized, Kept, In-rows}
 use Rattle.workspace.specs.Holds.{Stands}
 
 abbrev pub rule : List ℕ → ℕ → ℕ → Rule
 rule u p b = record { pattern = u; place = p; tag = b }
 
--- the rule's transducer from the state j on the tag a: where it goes, what it puts out; and what it holds there
-abbrev pub goes : Rule → ℕ → ℕ → ℕ
-goes r j a = oneRule r .next j a
+-- the rule's transducer from the state j on the tag a: where it goes, by the pattern alone, and what it puts out; and what it holds there
+abbrev pub goes : List ℕ → ℕ → ℕ → ℕ
+goes u j a = moves (length u) (borders u) j a
 
 abbrev pub says : Rule → ℕ → ℕ → List ℕ
 says r j a = oneRule r .output j a
@@ -41,6 +44,11 @@ pub record Room (g : Grid) (W : List ℕ) (r : Rule) : Type 0 where
   pub sized : Sized g W
   pub place-inside : r .place < length (r .pattern)
   pub deep : length (r .pattern) + FINAL ≤ g .depth
+
+-- the row `back` has the next states of the longest border of the first j tags
+pub record Behind (g : Grid) (W : List ℕ) (back : ℕ) (u : List ℕ) (j : ℕ) : Type 0 where
+  pub inside : back < g .rows
+  pub next-is : 0 < j → j < length u → (a : ℕ) → a < g .tags → at g W back a NEXT ≡ goes u (border u j) a
 
 -- the rows from base hold a table of so many states that does what the rule does with each piece, and holds at most one tag less than a
 -- pattern may have

@@ -1,7 +1,9 @@
 // The transducer of one rule: it does what the rule does, and is the smallest one that does.
-// Time O(k l³) for k tags and a pattern of l tags; space is the l + 1 rows of the result.
+// Time O(k l) for k tags and a pattern of l tags, and the tags of the words that are written; space is the l + 1 rows of the result.
 // From 002, definition 2, after Simon's string matching automaton: the states are the prefixes of the pattern, here by their lengths.
+use borders::find_borders;
 use cascades::Rule;
+use limits::PATTERN;
 use words::lesser;
 use words::wide;
 use workspace::FINAL;
@@ -9,60 +11,39 @@ use workspace::Grid;
 use workspace::NEXT;
 use workspace::OUTPUT;
 use workspace::clear;
+use workspace::get;
 use workspace::push;
 use workspace::put;
 ghost use mathlib.Core.Path.{_≡_};
 ghost use Prim.Native.Nat.{_+_, _≤_, _<_};
 ghost use mathlib.Core.Bool.{false};
-ghost use mathlib.Core.List.{[], _∷_, _++_};
-ghost use lib.ListN.{length, drop, take};
-ghost use Rattle.words.specs.Word.{prefix};
-ghost use Rattle.words.specs.Overlap.{overlap};
+ghost use mathlib.Core.List.{_++_};
+ghost use lib.ListN.{length};
+ghost use Rattle.borders.specs.Border.{Borders};
 ghost use Rattle.cascades.specs.Value.{ruleOf, Formed};
 ghost use Rattle.cascades.specs.Ending.{before};
 ghost use Rattle.workspace.specs.Entries.{OUTPUT, FINAL};
 ghost use Rattle.workspace.specs.Cells.{at, word, Sized, Written, part};
 ghost use Rattle.workspace.specs.Holds.{Stepped, Stepping, Rowed};
-ghost use Rattle.onerule.specs.Rule.{rule, goes, says, keeps, afresh, restarts, Room, Ruled};
+ghost use Rattle.onerule.specs.Rule.{rule, goes, says, keeps, afresh, restarts, Room, Behind, Ruled};
 
-// Whether the tags of the pattern u from s to j, and a after them, are the first ones of u.
-fn overlaps(u: &[u8], j: usize, a: usize, s: usize) -> bool
-    requires { ⌜ (s ≤ j) × (j < length (now u)) ⌝ }
-    ensures { λ r. ⌜ r ≡ prefix (drop s (take j (now (u .entry)) ++ (a ∷ []))) (now (u .entry)) ⌝ }
-{
-    let mut i = 0;
-    while s + i < j {
-        if u[s + i] != u[i] {
-            return false;
-        }
-        i += 1;
-    }
-    wide(u[i]) == a
-}
-
-// The length of the longest border: of the first j tags of u, and a after them, with u.
-fn border(u: &[u8], j: usize, a: usize) -> usize
-    requires { ⌜ j < length (now u) ⌝ }
-    ensures { λ r. ⌜ r ≡ overlap (now (u .entry)) (take j (now (u .entry)) ++ (a ∷ [])) ⌝ }
-{
-    let mut s = 0;
-    while s <= j {
-        if overlaps(u, j, a, s) {
-            return j + 1 - s;
-        }
-        s += 1;
-    }
-    0
-}
-
-fn next_of(u: &[u8], j: usize, a: usize, place: usize, tag: u8) -> usize
-    requires { ⌜ j ≤ length (now u) ⌝ }
-    ensures { λ r. ⌜ r ≡ goes (rule (now (u .entry)) place tag) j a ⌝ }
+// The state after the tag a where the first j tags were matched: one tag more, or where the row `back`, that of their longest border, leads.
+fn next_of(work: &[u16], g: Grid, back: usize, u: &[u8], j: usize, a: usize) -> usize
+    requires { ⌜ Sized g (now work) ⌝ }
+    requires { ⌜ Behind g (now work) back (now u) j ⌝ }
+    requires { ⌜ (0 < g .depth) × (a < g .tags) × (j ≤ length (now u)) ⌝ }
+    ensures { λ next. ⌜ next ≡ goes (now (u .entry)) j a ⌝ }
 {
     if j == u.len() {
         return j;
     }
-    border(u, j, a)
+    if wide(u[j]) == a {
+        return j + 1;
+    }
+    if j == 0 {
+        return 0;
+    }
+    get(work, g, back, a, NEXT)
 }
 
 // The tags of u from one place up to another, after the word at s.
@@ -102,7 +83,7 @@ fn write_output(
 )
     requires { ⌜ Room g (now work) (rule (now u) place tag) ⌝ }
     requires { ⌜ (r < g .rows) × (a < g .tags) × (j ≤ length (now u)) ⌝ }
-    requires { ⌜ next ≡ goes (rule (now u) place tag) j a ⌝ }
+    requires { ⌜ next ≡ goes (now u) j a ⌝ }
     ensures { λ _. ⌜ Written g (now (work .entry)) (now (work .exit)) r a OUTPUT (says (rule (now (u .entry)) place tag) j a) ⌝ }
 {
     clear(work, g, r, a, OUTPUT);
@@ -127,16 +108,14 @@ fn write_output(
 fn restart(next: usize, a: usize, end: usize) -> usize
     ensures { λ r. ⌜ r ≡ restarts end a next ⌝ }
 {
-    if a == end {
-        return 0;
-    }
-    next
+    if a == end { 0 } else { next }
 }
 
 fn write_step(
     work: &mut [u16],
     g: Grid,
     r: usize,
+    back: usize,
     u: &[u8],
     place: usize,
     tag: u8,
@@ -146,9 +125,10 @@ fn write_step(
 )
     requires { ⌜ Room g (now work) (rule (now u) place tag) ⌝ }
     requires { ⌜ (r < g .rows) × (a < g .tags) × (j ≤ length (now u)) × (before end (now u) ≡ false) ⌝ }
+    requires { ⌜ Behind g (now work) back (now u) j ⌝ }
     ensures { λ _. ⌜ Stepped g (now (work .entry)) (now (work .exit)) r a (afresh end (rule (now (u .entry)) place tag) .next j a) (afresh end (rule (now (u .entry)) place tag) .output j a) ⌝ }
 {
-    let next = next_of(u, j, a, place, tag);
+    let next = next_of(work, g, back, u, j, a);
     put(work, g, r, a, NEXT, restart(next, a, end));
     write_output(work, g, r, u, place, tag, j, a, next);
 }
@@ -157,6 +137,7 @@ fn write_steps(
     work: &mut [u16],
     g: Grid,
     r: usize,
+    back: usize,
     u: &[u8],
     place: usize,
     tag: u8,
@@ -165,12 +146,13 @@ fn write_steps(
 )
     requires { ⌜ Room g (now work) (rule (now u) place tag) ⌝ }
     requires { ⌜ (r < g .rows) × (j ≤ length (now u)) × (before end (now u) ≡ false) ⌝ }
+    requires { ⌜ Behind g (now work) back (now u) j × (0 < j → back < r) ⌝ }
     ensures { λ _. ⌜ Stepping g (now (work .entry)) (now (work .exit)) r (afresh end (rule (now (u .entry)) place tag)) j (g .tags) ⌝ }
 {
     let tags = g.tags;
     let mut a = 0;
     while a < tags {
-        write_step(work, g, r, u, place, tag, end, j, a);
+        write_step(work, g, r, back, u, place, tag, end, j, a);
         a += 1;
     }
 }
@@ -187,10 +169,12 @@ fn write_final(work: &mut [u16], g: Grid, r: usize, u: &[u8], place: usize, tag:
     push_part(work, g, r, g.tags, FINAL, u, lesser(place, j), j);
 }
 
+// To the row base + j the state of the first j tags, by their longest border.
 fn write_state(
     work: &mut [u16],
     g: Grid,
-    r: usize,
+    base: usize,
+    border: usize,
     u: &[u8],
     place: usize,
     tag: u8,
@@ -198,11 +182,12 @@ fn write_state(
     j: usize,
 )
     requires { ⌜ Room g (now work) (rule (now u) place tag) ⌝ }
-    requires { ⌜ (r < g .rows) × (j ≤ length (now u)) × (before end (now u) ≡ false) ⌝ }
-    ensures { λ _. ⌜ Rowed g (now (work .entry)) (now (work .exit)) r (afresh end (rule (now (u .entry)) place tag)) j ⌝ }
+    requires { ⌜ (base + j < g .rows) × (j ≤ length (now u)) × (before end (now u) ≡ false) ⌝ }
+    requires { ⌜ Behind g (now work) (base + border) (now u) j × (0 < j → border < j) ⌝ }
+    ensures { λ _. ⌜ Rowed g (now (work .entry)) (now (work .exit)) (base + j) (afresh end (rule (now (u .entry)) place tag)) j ⌝ }
 {
-    write_steps(work, g, r, u, place, tag, end, j);
-    write_final(work, g, r, u, place, tag, j);
+    write_steps(work, g, base + j, base + border, u, place, tag, end, j);
+    write_final(work, g, base + j, u, place, tag, j);
 }
 
 // The states of the rule's transducer to the rows from `base`: their number.
@@ -211,17 +196,19 @@ fn write_states(
     g: Grid,
     base: usize,
     u: &[u8],
+    borders: &[usize],
     place: usize,
     tag: u8,
     end: usize,
 ) -> usize
     requires { ⌜ Room g (now work) (rule (now u) place tag) ⌝ }
     requires { ⌜ (base + (length (now u) + 1) ≤ g .rows) × (before end (now u) ≡ false) ⌝ }
+    requires { ⌜ Borders (now u) (now borders) ⌝ }
     ensures { λ count. ⌜ Ruled g (now (work .entry)) (now (work .exit)) base count end (rule (now (u .entry)) place tag) ⌝ }
 {
     let mut j = 0;
     while j <= u.len() {
-        write_state(work, g, base + j, u, place, tag, end, j);
+        write_state(work, g, base, borders[j], u, place, tag, end, j);
         j += 1;
     }
     j
@@ -236,5 +223,16 @@ pub fn write_rule(work: &mut [u16], g: Grid, base: usize, rule: Rule, end: usize
 {
     let row = rule.row;
     let length = rule.length;
-    write_states(work, g, base, &row[..length], rule.place, rule.tag, end)
+    let mut borders = [0; PATTERN + 1];
+    find_borders(&row[..length], &mut borders);
+    write_states(
+        work,
+        g,
+        base,
+        &row[..length],
+        &borders,
+        rule.place,
+        rule.tag,
+        end,
+    )
 }

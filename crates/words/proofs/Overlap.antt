@@ -1,5 +1,5 @@
 -- Laws of overlaps.
-use Prim.Native.Nat.{ℕ, suc, _≤_}
+use Prim.Native.Nat.{ℕ, zero, suc, _-_, _≤_}
 use native.Mathlib.Omega.{arith}
 use mathlib.Core.Path.{_≡_, refl, sym, ap}
 use mathlib.Core.List.{List, [], _∷_, _++_}
@@ -33,3 +33,13 @@ overlap-le u (b ∷ t) = go (prefix (b ∷ t) u) refl (overlap-le u t)
 pub overlap-prefix : (u t : List ℕ) → prefix t u ≡ true → overlap u t ≡ length t
 overlap-prefix u [] h = refl
 overlap-prefix u (b ∷ t) h = rw (h, overlap)
+
+-- no end of t that begins u is longer
+pub overlap-most : (u t : List ℕ) (i : ℕ) → prefix (drop i t) u ≡ true → length t - i ≤ overlap u t
+overlap-most u [] i h = omega arith
+overlap-most u (b ∷ t) zero h = omega (arith, overlap-prefix u (b ∷ t) h)
+overlap-most u (b ∷ t) (suc i) h = by (prefix (b ∷ t) u) (overlap-most u t i h)
+  where
+    by : (c : Bool) → length t - i ≤ overlap u t → suc (length t) - suc i ≤ elim c [ true ↦ suc (length t) | false ↦ overlap u t ]
+    by true l = omega arith
+    by false l = omega arith

@@ -9,7 +9,7 @@ use mathlib.Core.List.{List, [], _∷_, _++_}
 use mathlib.Core.Bool.{Bool, true, false, false≢true}
 use lib.ListN.{length, take, drop, getD, set, take-append-drop, length-append}
 use lib.Dec.{eqb}
-use lib.Seq.{drop-cons}
+use lib.Seq.{drop-cons, take-append-seam}
 use borrow.Author.Tests.{eqb-true, eq-eqb, ne-eqb}
 use Rattle.words.specs.Word.{Below, prefix}
 
@@ -84,6 +84,20 @@ prefix-split (a ∷ u) (b ∷ w) h = go (eqb a b) refl h (prefix-split u w)
         → b ∷ w ≡ a ∷ (u ++ drop (length u) w)
     go true e h rest = cc (eqb-true a b e, rest h)
     go false e h rest = absurd (false≢true h)
+
+-- a front of a prefix is one
+pub prefix-left : (z w u : List ℕ) → prefix (z ++ w) u ≡ true → prefix z u ≡ true
+prefix-left [] w u e = refl
+prefix-left (a ∷ z) w [] e = e
+prefix-left (a ∷ z) w (b ∷ u) e = by (eqb a b) (prefix-left z w u) e
+  where
+    by : (c : Bool) → (prefix (z ++ w) u ≡ true → prefix z u ≡ true) → elim c [ true ↦ prefix (z ++ w) u | false ↦ false ] ≡ true → elim c [ true ↦ prefix z u | false ↦ false ] ≡ true
+    by true f e = f e
+    by false f e = e
+
+-- a prefix is a front
+pub prefix-take : (z u : List ℕ) → prefix z u ≡ true → z ≡ take (length z) u
+prefix-take z u e = sym (ap (take (length z)) (prefix-split z u e) ∙ take-append-seam z (drop (length z) u))
 
 -- a word that begins s and more, and is no shorter than s, begins with s
 pub prefix-shorter : (u s x : List ℕ) → length s ≤ length u → prefix u (s ++ x) ≡ true → prefix s u ≡ true

@@ -70,7 +70,9 @@ slice-aggregate-answer-2 c =
     sym (length-take-le _ _ (array-share-prefix-b (c .before)))
 
 answer-requires : tie.Need-answer-requires
-answer-requires c κs = omega (arith, slice-aggregate-answer-2 c, array-share-prefix-b (c .before))
+answer-requires c κs =
+    let e = c .before in
+    omega (arith, slice-aggregate-answer e, array-share-prefix-a (e .before), slice-aggregate-answer-2 c, array-share-prefix-b e)
 
 returns : tie.Need-returns
 returns c = search needs

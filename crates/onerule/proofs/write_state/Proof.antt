@@ -2,6 +2,7 @@ use Rattle.onerule.proofs.Words.{roomy-afresh}
 use Rattle.workspace.proofs.Holds.{stepping-end}
 use Rattle.onerule.specs.Rule.{rule, afresh}
 use native.Mathlib.Omega.{arith}
+use Prim.Native.Nat.{_+_}
 use borrow.Author.Needs.{needs}
 use Rattle.onerule.proofs.write_state.Statement.{statement}
 use Rattle.onerule.proofs.write_state.Tie as tie
@@ -10,8 +11,19 @@ use Rattle.onerule.proofs.write_state.Lts as lts
 use Rattle.onerule.proofs.write_final.Reads as write-final-reads
 use Rattle.onerule.proofs.write_steps.Reads as write-steps-reads
 
+add-write-steps : tie.Need-add-write-steps
+add-write-steps c = search needs
+
+add-write-steps-2 : tie.Need-add-write-steps-2
+add-write-steps-2 c = let st = c .before .before .before in omega (arith, st .pre .1 .1 .0 .inside)
+
 write-steps-requires : tie.Need-write-steps-requires
-write-steps-requires c κs = search needs
+write-steps-requires c κs =
+    let st = c .before .before .before in
+    (st .pre .0, (st .pre .1 .0, (st .pre .1 .1 .0, λ some. omega (arith, st .pre .1 .1 .1 some))))
+
+add-write-final : tie.Need-add-write-final
+add-write-final c = search needs
 
 write-final-requires : tie.Need-write-final-requires
 write-final-requires c κs = search needs
@@ -21,9 +33,9 @@ same-length c = search needs
 
 returns : tie.Need-returns
 returns c = let st = c .before .before .before .before .before .before .before .before .before .before in let a = st .args in
-    stepping-end (a .g) (a .r) (afresh (a .end) (rule (a .u .now) (a .place) (a .tag))) (a .j) (omega arith)
-    (roomy-afresh (a .u .now) (a .place) (a .tag) (a .end) (st .pre .1 .2) (a .g) (st .pre .0 .place-inside) (st .pre .0 .deep)) _ _ _ (c .before .before .before .before .before .before .write-steps .ensures) (c .before .before .write-final .ensures)
+    stepping-end (a .g) (a .base + a .j) (afresh (a .end) (rule (a .u .now) (a .place) (a .tag))) (a .j) (omega arith)
+    (roomy-afresh (a .u .now) (a .place) (a .tag) (a .end) (st .pre .1 .0 .2) (a .g) (st .pre .0 .place-inside) (st .pre .0 .deep)) _ _ _ (c .before .before .before .before .before .before .write-steps .ensures) (c .before .before .write-final .ensures)
 
 pub write-state-spec : {M : Type 1} → statement M
 write-state-spec =
-    tie.close (tie.spec write-steps-requires write-final-requires same-length returns)
+    tie.close (tie.spec add-write-steps add-write-steps-2 write-steps-requires add-write-final write-final-requires same-length returns)

@@ -1,4 +1,5 @@
 use Rattle.onerule.proofs.Words.{roomy-afresh, inside-afresh}
+use Rattle.onerule.proofs.Behind.{behind-filling}
 use Rattle.onerule.specs.Rule.{rule, afresh}
 use Rattle.workspace.proofs.Holds.{filling-start, filling-next, holds-table}
 use Rattle.workspace.specs.Holds.{Filling}
@@ -17,22 +18,31 @@ use Rattle.onerule.proofs.write_states.Lts as lts
 use Rattle.onerule.proofs.write_state.Reads as write-state-reads
 
 abbrev Inv-loop : tie.InvT-loop
-Inv-loop work₀ g base u place tag end j₀ work j = (j ≤ length u + 1) × Filling g work₀ work base (length u + 1) (afresh end (rule u place tag)) j
+Inv-loop work₀ g base u borders place tag end j₀ work j = (j ≤ length u + 1) × Filling g work₀ work base (length u + 1) (afresh end (rule u place tag)) j
 
 abbrev μ-loop : tie.MeasureT-loop
-μ-loop work₀ g base u place tag end j₀ work j = length u + 1 - j
+μ-loop work₀ g base u borders place tag end j₀ work j = length u + 1 - j
 
 loop-holds : tie.Need-loop-holds Inv-loop μ-loop
-loop-holds c = let st = c .before .before in let a = st .args in (
+loop-holds c = let st = c .before .before .before in let a = st .args in (
   omega arith,
-  filling-start (a .g) (a .base) _ (afresh (a .end) (rule (a .u .now) (a .place) (a .tag))) (roomy-afresh (a .u .now) (a .place) (a .tag) (a .end) (st .pre .1 .1) (a .g) (st .pre .0 .place-inside) (st .pre .0 .deep)) (omega arith) (a .work .now),
+  filling-start (a .g) (a .base) _ (afresh (a .end) (rule (a .u .now) (a .place) (a .tag))) (roomy-afresh (a .u .now) (a .place) (a .tag) (a .end) (st .pre .1 .0 .1) (a .g) (st .pre .0 .place-inside) (st .pre .0 .deep)) (omega arith) (a .work .now),
 )
 
-add-write-state : tie.Need-add-write-state Inv-loop μ-loop
-add-write-state c = search needs
+mul-write-state : tie.Need-mul-write-state Inv-loop μ-loop
+mul-write-state c = search needs
+
+shared-slice-read-write-state : tie.Need-shared-slice-read-write-state Inv-loop μ-loop
+shared-slice-read-write-state c = let st = c .before .before .before .before .before .before .before in omega (arith, st .pre .1 .1 .room)
 
 write-state-requires : tie.Need-write-state-requires Inv-loop μ-loop
-write-state-requires c κs = (search needs, (omega arith, omega arith, c .before .before .before .before .before .pre .1 .1))
+write-state-requires c κs =
+    let st = c .before .before .before .before .before .before .before in
+    let a = st .args in
+    let l = c .before .before .before .loop in (
+      search needs,
+      ((omega arith, omega arith, st .pre .1 .0 .1), behind-filling (a .g) (a .u .now) (l .j) _ _ (a .base) _ (a .place) (a .tag) (a .end) _ (st .pre .1 .0 .1) (st .pre .1 .1 .entry (l .j) (omega arith)) (omega arith) (omega arith) (l .inv .1)),
+    )
 
 add-j : tie.Need-add-j Inv-loop μ-loop
 add-j c = search needs
@@ -41,16 +51,16 @@ loop-less : tie.Need-loop-less Inv-loop μ-loop
 loop-less c = search needs
 
 loop-again : tie.Need-loop-again Inv-loop μ-loop
-loop-again c = let st = c .before .before .before .before .before .before .before .before in let a = st .args in (
+loop-again c = let st = c .before .before .before .before .before .before .before .before .before .before in let a = st .args in (
   omega arith,
-  filling-next (a .g) (a .base) (length (a .u .now) + 1) (afresh (a .end) (rule (a .u .now) (a .place) (a .tag))) (roomy-afresh (a .u .now) (a .place) (a .tag) (a .end) (st .pre .1 .1) (a .g) (st .pre .0 .place-inside) (st .pre .0 .deep)) (omega arith) _ _ _ _ (omega arith) (c .before .before .before .before .before .loop .inv .1) (c .before .before .write-state .ensures),
+  filling-next (a .g) (a .base) (length (a .u .now) + 1) (afresh (a .end) (rule (a .u .now) (a .place) (a .tag))) (roomy-afresh (a .u .now) (a .place) (a .tag) (a .end) (st .pre .1 .0 .1) (a .g) (st .pre .0 .place-inside) (st .pre .0 .deep)) (omega arith) _ _ _ _ (omega arith) (c .before .before .before .before .before .before .loop .inv .1) (c .before .before .write-state .ensures),
 )
 
 same-length : tie.Need-same-length Inv-loop μ-loop
 same-length c = c .before .loop .inv .1 .kept .long
 
 returns : tie.Need-returns Inv-loop μ-loop
-returns c = let st = c .before .before .before .before in let a = st .args in let r = rule (a .u .now) (a .place) (a .tag) in let l = c .before .loop in let last : l .j ≡ length (a .u .now) + 1 = omega arith in
+returns c = let st = c .before .before .before .before .before in let a = st .args in let r = rule (a .u .now) (a .place) (a .tag) in let l = c .before .loop in let last : l .j ≡ length (a .u .now) + 1 = omega arith in
     record {
       few = omega arith;
       kept = rw last (l .inv .1 .kept);
@@ -58,8 +68,8 @@ returns c = let st = c .before .before .before .before in let a = st .args in le
           record {
             made = record { table = ruleTable (a .g .tags) (a .end) r; long = length-table (a .g .tags) (afresh (a .end) r) ∙ (omega arith); doing = doing-rule m (a .g .tags) (a .end) r v; so = tt };
             holds =
-                holds-table (a .g) (l .work) (a .base) (afresh (a .end) r) (omega arith) (inside-afresh (a .u .now) (a .place) (a .tag) (a .end) (st .pre .1 .1) (a .g .tags))
-                (roomy-afresh (a .u .now) (a .place) (a .tag) (a .end) (st .pre .1 .1) (a .g) (st .pre .0 .place-inside) (st .pre .0 .deep)) (λ q h. l .inv .1 .states q (omega arith));
+                holds-table (a .g) (l .work) (a .base) (afresh (a .end) r) (omega arith) (inside-afresh (a .u .now) (a .place) (a .tag) (a .end) (st .pre .1 .0 .1) (a .g .tags))
+                (roomy-afresh (a .u .now) (a .place) (a .tag) (a .end) (st .pre .1 .0 .1) (a .g) (st .pre .0 .place-inside) (st .pre .0 .deep)) (λ q h. l .inv .1 .states q (omega arith));
           };
     }
 
@@ -70,7 +80,8 @@ write-states-spec =
     Inv-loop
     μ-loop
     loop-holds
-    add-write-state
+    mul-write-state
+    shared-slice-read-write-state
     write-state-requires
     add-j
     loop-less

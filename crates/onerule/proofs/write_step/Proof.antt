@@ -23,17 +23,17 @@ stepped-as : {g : Grid} {W X : List ℕ} {r a n m : ℕ} {v w : List ℕ} → n 
 stepped-as {g} {W} {X} {r} {a} {n} {m} {v} {w} e f h = subst (λ (l : List ℕ). Stepped g W X r a m l) f (subst (λ (q : ℕ). Stepped g W X r a q v) e h)
 
 next-of-requires : tie.Need-next-of-requires
-next-of-requires c κs = search needs
+next-of-requires c κs = let st = c .before .before .before in (st .pre .0 .sized, (st .pre .1 .1, (omega (arith, st .pre .0 .deep), omega arith, omega arith)))
 
 restart-requires : tie.Need-restart-requires
 restart-requires c = search needs
 
 put-requires : tie.Need-put-requires
 put-requires c κs =
-    let st = c .before .before .before .before .before in
+    let st = c .before .before .before .before .before .before in
     let a = st .args in
     let next = c .restart .ensures ∙ ap (restarts (a .end) (a .a)) (c .before .before .next-of .ensures) in
-    omega (arith, next, restarts-below (a .u .now) (a .place) (a .tag) (a .end) (st .pre .1 .3) (a .j) (a .a) (omega arith))
+    omega (arith, next, restarts-below (a .u .now) (a .place) (a .tag) (a .end) (st .pre .1 .0 .3) (a .j) (a .a) (omega arith))
 
 write-output-requires : tie.Need-write-output-requires
 write-output-requires c κs = search needs
@@ -43,10 +43,10 @@ same-length c = search needs
 
 returns : tie.Need-returns
 returns c =
-    let st = c .before .before .before .before .before .before .before .before .before .before .before .before in
+    let st = c .before .before .before .before .before .before .before .before .before .before .before .before .before in
     let a = st .args in
     let next = c .before .before .before .before .before .before .before .restart .ensures ∙ ap (restarts (a .end) (a .a)) (c .before .before .before .before .before .before .before .before .before .next-of .ensures) in
-    stepped-as next (output-afresh (a .u .now) (a .place) (a .tag) (a .end) (st .pre .1 .3) (a .j) (a .a) (omega arith))
+    stepped-as next (output-afresh (a .u .now) (a .place) (a .tag) (a .end) (st .pre .1 .0 .3) (a .j) (a .a) (omega arith))
     (stepped (a .g) _ _ _ _ _ _ _ (omega arith) (omega arith) (c .before .before .before .before .before .before .put .ensures) (c .before .before .write-output .ensures))
 
 pub write-step-spec : {M : Type 1} → statement M

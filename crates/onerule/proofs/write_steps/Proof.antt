@@ -1,4 +1,5 @@
 use Rattle.onerule.proofs.Words.{roomy-afresh}
+use Rattle.onerule.proofs.Behind.{behind-kept}
 use Rattle.onerule.specs.Rule.{rule, afresh}
 use Rattle.workspace.proofs.Holds.{stepping-start, stepping-next}
 use Rattle.workspace.specs.Holds.{Stepping}
@@ -13,19 +14,22 @@ use Rattle.onerule.proofs.write_steps.Lts as lts
 use Rattle.onerule.proofs.write_step.Reads as write-step-reads
 
 abbrev Inv-loop : tie.InvT-loop
-Inv-loop work₀ g r u place tag end j tags a₀ work a = (a ≤ g .tags) × Stepping g work₀ work r (afresh end (rule u place tag)) j a
+Inv-loop work₀ g r back u place tag end j tags a₀ work a = (a ≤ g .tags) × Stepping g work₀ work r (afresh end (rule u place tag)) j a
 
 abbrev μ-loop : tie.MeasureT-loop
-μ-loop work₀ g r u place tag end j tags a₀ work a = tags - a
+μ-loop work₀ g r back u place tag end j tags a₀ work a = tags - a
 
 loop-holds : tie.Need-loop-holds Inv-loop μ-loop
 loop-holds c = let st = c .before .before in let a = st .args in (
   omega arith,
-  stepping-start (a .g) (a .r) (afresh (a .end) (rule (a .u .now) (a .place) (a .tag))) (a .j) (omega arith) (roomy-afresh (a .u .now) (a .place) (a .tag) (a .end) (st .pre .1 .2) (a .g) (st .pre .0 .place-inside) (st .pre .0 .deep)) (a .work .now),
+  stepping-start (a .g) (a .r) (afresh (a .end) (rule (a .u .now) (a .place) (a .tag))) (a .j) (omega arith) (roomy-afresh (a .u .now) (a .place) (a .tag) (a .end) (st .pre .1 .0 .2) (a .g) (st .pre .0 .place-inside) (st .pre .0 .deep)) (a .work .now),
 )
 
 write-step-requires : tie.Need-write-step-requires Inv-loop μ-loop
-write-step-requires c κs = search needs
+write-step-requires c κs =
+    let st = c .before .before .before .before .before in
+    let a = st .args in
+    (search needs, (search needs, behind-kept (a .g) (a .u .now) (a .j) _ _ (a .r) (a .back) (omega (arith, st .pre .0 .deep)) (st .pre .1 .1 .1) (c .before .before .loop .inv .1 .kept) (st .pre .1 .1 .0)))
 
 add-a : tie.Need-add-a Inv-loop μ-loop
 add-a c = search needs
@@ -36,7 +40,7 @@ loop-less c = search needs
 loop-again : tie.Need-loop-again Inv-loop μ-loop
 loop-again c = let st = c .before .before .before .before .before .before .before .before in let a = st .args in (
   omega arith,
-  stepping-next (a .g) (a .r) (afresh (a .end) (rule (a .u .now) (a .place) (a .tag))) (a .j) (omega arith) (roomy-afresh (a .u .now) (a .place) (a .tag) (a .end) (st .pre .1 .2) (a .g) (st .pre .0 .place-inside) (st .pre .0 .deep)) _ _ _ _ (omega arith) (c .before .before .before .before .before .loop .inv .1) (c .before .before .write-step .ensures),
+  stepping-next (a .g) (a .r) (afresh (a .end) (rule (a .u .now) (a .place) (a .tag))) (a .j) (omega arith) (roomy-afresh (a .u .now) (a .place) (a .tag) (a .end) (st .pre .1 .0 .2) (a .g) (st .pre .0 .place-inside) (st .pre .0 .deep)) _ _ _ _ (omega arith) (c .before .before .before .before .before .loop .inv .1) (c .before .before .write-step .ensures),
 )
 
 same-length : tie.Need-same-length Inv-loop μ-loop

@@ -1,0 +1,2 @@
+-- The longest borders of a word's prefixes.
+pub mod Border

@@ -1,0 +1,77 @@
+-- The row of the longest border: where a tag leads that does not follow in the pattern.
+use Prim.Native.Nat.{ℕ, _+_, _≤_, _<_}
+use native.Mathlib.Omega.{arith}
+use native.Mathlib.Numerals.{add-one}
+use mathlib.Core.Path.{_≡_, refl, sym, ap, _∙_}
+use mathlib.Core.Bool.{Bool, true, false}
+use mathlib.Core.List.{List, [], _∷_, _++_}
+use borrow.Author.Tests.{eqb-true}
+use lib.Dec.{eqb}
+use lib.ListN.{length, getD, take, drop, take-append-drop}
+use lib.Seq.{length-take-le}
+use Rattle.words.specs.Word.{prefix}
+use Rattle.words.specs.Overlap.{overlap}
+use Rattle.words.proofs.Word.{prefix-append}
+use Rattle.words.proofs.Overlap.{overlap-prefix}
+use Rattle.borders.specs.Border.{border}
+use Rattle.borders.proofs.Border.{overlap-grown, border-le, border-below, grown-none, grown-shorter, grown-longer, grown}
+use Rattle.cascades.specs.Ending.{before}
+use Rattle.minimal.proofs.OneRule.{borders-move, overlap-step}
+use Rattle.minimal.proofs.Ending.{none-matched}
+use Rattle.workspace.specs.declared.Grid.{Grid}
+use Rattle.workspace.specs.Entries.{NEXT}
+use Rattle.workspace.specs.Cells.{Kept, In-rows}
+use Rattle.workspace.specs.Holds.{Filling}
+use Rattle.onerule.specs.Rule.{rule, goes, afresh, restarts, Behind}
+
+module _ (u : List ℕ) where
+  front : (j : ℕ) → prefix (take j u) u ≡ true
+  front j = ap (prefix (take j u)) (sym (take-append-drop j u)) ∙ prefix-append (take j u) (drop j u)
+
+  -- a state's step is one tag more, or that of its longest border
+  goes-grown : (j a : ℕ) → j < length u → goes u j a ≡ grown u a j
+  goes-grown j a h =
+      let all : overlap u (take j u) ≡ j = overlap-prefix u (take j u) (front j) ∙ length-take-le j u (omega arith) in
+      borders-move u j a h ∙ overlap-grown u a (take j u) (omega (arith, all)) ∙ ap (grown u a) all
+
+  pub goes-on : (j a : ℕ) → j < length u → getD u j 0 ≡ a → j + 1 ≡ goes u j a
+  goes-on j a h same = add-one j ∙ sym (goes-grown j a h ∙ grown-longer u a j same)
+
+  pub goes-first : (j a : ℕ) → j < length u → (getD u j 0 ≡ a → ⊥) → j ≡ 0 → 0 ≡ goes u j a
+  goes-first j a h other none = sym (goes-grown j a h ∙ grown-none u a j other none)
+
+  pub goes-back : (j a : ℕ) → j < length u → (getD u j 0 ≡ a → ⊥) → 0 < j → goes u (border u j) a ≡ goes u j a
+  goes-back j a h other some =
+      goes-grown (border u j) a (omega (arith, border-below u j some (omega arith))) ∙ sym (goes-grown j a h ∙ grown-shorter u a j h other some)
+
+  -- before the last state an end tag leads to the start anyway
+  restarts-back : (e : ℕ) → before e u ≡ false → (j a : ℕ) → j + 1 < length u → restarts e a (goes u j a) ≡ goes u j a
+  restarts-back e free j a h = by (eqb a e) refl
+    where
+      by : (c : Bool) → eqb a e ≡ c → elim c as (λ x. ℕ) [ true ↦ 0 | false ↦ goes u j a ] ≡ goes u j a
+      by true is =
+          let low : overlap u (take j u ++ (a ∷ [])) < length u = omega (arith, overlap-step u j a (omega arith) .0) in
+          sym (borders-move u j a (omega arith) ∙ none-matched e (rule u 0 0) free j (overlap u (take j u ++ (a ∷ []))) (ap (λ (x : ℕ). overlap u (take j u ++ (x ∷ []))) (sym (eqb-true a e is))) low)
+      by false is = refl
+
+module _ (g : Grid) (u : List ℕ) (j : ℕ) where
+  -- as long as another row changes
+  pub behind-kept : (W X : List ℕ) (r back : ℕ) → 0 < g .depth → (0 < j → back < r) → Kept g W X (In-rows r (r + 1)) → Behind g W back u j → Behind g X back u j
+  behind-kept W X r back deep earlier kept b =
+      record {
+        inside = b .inside;
+        next-is = λ some h a ha. kept .same back a NEXT (omega arith) deep (λ i. omega (arith, i .0, earlier some)) ∙ b .next-is some h a ha;
+      }
+
+  -- the rows before j are written
+  pub behind-filling : (W X : List ℕ) (base n p t e b : ℕ) → before e u ≡ false → b ≡ border u j → j ≤ length u → base + j < g .rows
+      → Filling g W X base n (afresh e (rule u p t)) j → Behind g X (base + b) u j × (0 < j → b < j)
+  behind-filling W X base n p t e b free is h room f = (
+    record {
+      inside = omega (arith, is, border-le u j h);
+      next-is = λ some l a ha.
+          let lower = border-below u j some h in
+          f .states b (omega (arith, is)) .steps a ha .next-is ∙ restarts-back u e free b a (omega (arith, is)) ∙ ap (λ (q : ℕ). goes u q a) is;
+    },
+    λ some. omega (arith, is, border-below u j some h),
+  )
