@@ -129,8 +129,8 @@ fn write_step(
     ensures { λ _. ⌜ Stepped g (now (work .entry)) (now (work .exit)) r a (afresh end (rule (now (u .entry)) place tag) .next j a) (afresh end (rule (now (u .entry)) place tag) .output j a) ⌝ }
 {
     let next = next_of(work, g, back, u, j, a);
-    put(work, g, r, a, NEXT, restart(next, a, end));
     write_output(work, g, r, u, place, tag, j, a, next);
+    put(work, g, r, a, NEXT, restart(next, a, end));
 }
 
 fn write_steps(

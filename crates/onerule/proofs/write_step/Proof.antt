@@ -1,9 +1,9 @@
 -- `onerule::write_step` meets its contract.
-use Rattle.onerule.proofs.Words.{restarts-below, output-afresh}
+use Rattle.onerule.proofs.Words.{restarts-below, roomy-rule, output-afresh}
 use Rattle.workspace.specs.declared.Grid.{Grid}
 use Rattle.onerule.specs.Rule.{restarts}
 use Rattle.workspace.specs.Holds.{Stepped}
-use Rattle.workspace.proofs.Holds.{stepped}
+use Rattle.workspace.proofs.Holds.{stepped-after}
 use Prim.Native.Nat.{ℕ}
 use mathlib.Core.List.{List}
 use mathlib.Core.Path.{_≡_, ap, _∙_, subst}
@@ -30,10 +30,10 @@ restart-requires c = search needs
 
 put-requires : tie.Need-put-requires
 put-requires c κs =
-    let st = c .before .before .before .before .before .before in
+    let st = c .before .before .before .before .before .before .before .before .before .before in
     let a = st .args in
-    let next = c .restart .ensures ∙ ap (restarts (a .end) (a .a)) (c .before .before .next-of .ensures) in
-    omega (arith, next, restarts-below (a .u .now) (a .place) (a .tag) (a .end) (st .pre .1 .0 .3) (a .j) (a .a) (omega arith))
+    let next = c .restart .ensures ∙ ap (restarts (a .end) (a .a)) (c .before .before .before .before .before .before .next-of .ensures) in
+    omega (arith, c .before .before .before .before .write-output .ensures .kept .long, next, restarts-below (a .u .now) (a .place) (a .tag) (a .end) (st .pre .1 .0 .3) (a .j) (a .a) (omega arith))
 
 write-output-requires : tie.Need-write-output-requires
 write-output-requires c κs = search needs
@@ -45,10 +45,11 @@ returns : tie.Need-returns
 returns c =
     let st = c .before .before .before .before .before .before .before .before .before .before .before .before .before in
     let a = st .args in
-    let next = c .before .before .before .before .before .before .before .restart .ensures ∙ ap (restarts (a .end) (a .a)) (c .before .before .before .before .before .before .before .before .before .next-of .ensures) in
+    let next = c .before .before .before .restart .ensures ∙ ap (restarts (a .end) (a .a)) (c .before .before .before .before .before .before .before .before .before .next-of .ensures) in
+    let roomy = roomy-rule (a .u .now) (a .place) (a .tag) (a .g) (st .pre .0 .place-inside) (st .pre .0 .deep) in
     stepped-as next (output-afresh (a .u .now) (a .place) (a .tag) (a .end) (st .pre .1 .0 .3) (a .j) (a .a) (omega arith))
-    (stepped (a .g) _ _ _ _ _ _ _ (omega arith) (omega arith) (c .before .before .before .before .before .before .put .ensures) (c .before .before .write-output .ensures))
+    (stepped-after (a .g) _ _ _ _ _ _ _ (omega arith) (omega (arith, roomy .outputs (a .j) (a .a) (omega arith) (omega arith))) (c .before .before .before .before .before .before .before .write-output .ensures) (c .before .before .put .ensures))
 
 pub write-step-spec : {M : Type 1} → statement M
 write-step-spec =
-    tie.close (tie.spec next-of-requires restart-requires put-requires write-output-requires same-length returns)
+    tie.close (tie.spec next-of-requires write-output-requires restart-requires put-requires same-length returns)
