@@ -93,7 +93,7 @@ module _ (u : List ℕ) (a : ℕ) where
       by true false h = omega arith
       by false d h = h
 
-  -- each comparison lengthens the border, shortens it, or ends the tag with none
+  -- each comparison lengthens the border, shortens it, or finds none to shorten
   pub compared-few : (t : List ℕ) → compared u a t + overlap u (t ++ (a ∷ [])) ≤ overlap u t + 2
   compared-few [] = omega (arith, overlap-le u (a ∷ []) .0)
   compared-few (b ∷ t) = by (prefix (b ∷ t) u) refl (compared-few t)

@@ -7,14 +7,14 @@ use Rattle.borders.specs.Border.{border, comparisons}
 abbrev borders : List ℕ → List ℕ
 borders u = border u 1 ∷ border u 2 ∷ border u 3 ∷ border u 4 ∷ border u 5 ∷ []
 
--- the pattern of 002's figure 1: after abab the second b shortens the border from two to none
+-- the pattern of 002's figure 1: after abab the last b shortens the border from two to none
 pub ababb : borders (0 ∷ 1 ∷ 0 ∷ 1 ∷ 1 ∷ []) ≡ 0 ∷ 0 ∷ 1 ∷ 2 ∷ 0 ∷ []
 ababb = refl
 
 pub ababb-compared : comparisons (0 ∷ 1 ∷ 0 ∷ 1 ∷ 1 ∷ []) ≡ 5
 ababb-compared = refl
 
--- after aba the second a follows the border's border
+-- after aba the next a follows the border's border
 pub abaab : borders (0 ∷ 1 ∷ 0 ∷ 0 ∷ 1 ∷ []) ≡ 0 ∷ 0 ∷ 1 ∷ 1 ∷ 2 ∷ []
 abaab = refl
 

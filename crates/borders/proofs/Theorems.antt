@@ -7,9 +7,9 @@ use mathlib.Core.List.{List, _++_, append-assoc}
 use lib.ListN.{length, take, drop, length-append, length-drop, take-append-drop}
 use lib.Seq.{length-take-le, drop-at, drop-drop}
 use Rattle.words.specs.Word.{prefix}
-use Rattle.words.specs.Overlap.{overlap, skipped}
+use Rattle.words.specs.Overlap.{overlap}
 use Rattle.words.proofs.Word.{prefix-append}
-use Rattle.words.proofs.Overlap.{overlap-split, overlap-most}
+use Rattle.words.proofs.Overlap.{skipped, overlap-split, overlap-most}
 use Rattle.borders.specs.Border.{Border, border, comparisons}
 use Rattle.borders.proofs.Border.{border-below, counted-some, counted-few}
 

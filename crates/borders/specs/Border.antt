@@ -17,8 +17,8 @@ pub record Border (u : List ℕ) (j b : ℕ) : Type 0 where
 abbrev pub border : List ℕ → ℕ → ℕ
 border u j = overlap u (drop 1 (take j u))
 
--- "Its comparisons of two tags are counted": the tag a comes after t. It is compared with the tag of u after each end of t that begins u, the
--- longest first and the empty one last, until it is that tag
+-- "Its comparisons of two tags are counted": the tag a comes after t. It is compared with the tag that follows in u each end of t that begins
+-- u, the longest first and the empty one last; the first equal tag is the last one compared
 abbrev pub compared : List ℕ → ℕ → List ℕ → ℕ
 compared u a [] = 1
 compared u a (b ∷ t) =
@@ -27,7 +27,7 @@ compared u a (b ∷ t) =
       | false ↦ compared u a t
     ]
 
--- for the first n tags after the first: each comes after what stands before it, less the first tag
+-- for the first n tags after the first: each comes after what stands before it, less the first tag, since a border is not all of it
 abbrev pub counted : List ℕ → ℕ → ℕ
 counted u zero = 0
 counted u (suc n) = counted u n + compared u (getD u (suc n) 0) (drop 1 (take (suc n) u))

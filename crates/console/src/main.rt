@@ -181,8 +181,7 @@ fn answer_parts(call: Call, rest: &[u8]) {
 
 fn answer_call(call: Call, rest: &[u8]) {
     match call {
-        Call::Book => answer_operands(call, rest, b""),
-        Call::Borders => answer_operands(call, rest, b""),
+        Call::Book | Call::Borders => answer_operands(call, rest, b""),
         _ => answer_parts(call, rest),
     }
 }

@@ -11,9 +11,9 @@ use lib.ListN.{length, take, drop, getD, length-append}
 use lib.Seq.{take-suc, getD-take, length-take-le}
 use Rattle.words.specs.Word.{Below}
 use Rattle.words.specs.Front.{first}
-use Rattle.words.specs.Overlap.{overlap, skipped}
+use Rattle.words.specs.Overlap.{overlap}
 use Rattle.words.proofs.Word.{below-take, below-drop}
-use Rattle.words.proofs.Overlap.{overlap-split, overlap-le}
+use Rattle.words.proofs.Overlap.{skipped, overlap-split, overlap-le}
 use Rattle.words.proofs.Pieces.{Without}
 use Rattle.cascades.specs.Rule.{Rule, ValidRule}
 use Rattle.cascades.specs.Ending.{before}

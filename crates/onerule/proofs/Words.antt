@@ -1,7 +1,7 @@
 -- The words of the rule's transducer as parts of the pattern.
 use Prim.Native.Nat.{ℕ, suc, _+_, _-_, _≤_, _<_, min}
 use native.Mathlib.Omega.{arith}
-use native.Mathlib.Decide.{ℕ-discrete, decLt}
+use native.Mathlib.Decide.{decLt}
 use native.Mathlib.Numerals.{add-one}
 use mathlib.Core.Path.{_≡_, refl, sym, ap, ap₂, _∙_, subst}
 use mathlib.Core.Bool.{Bool, true, false}
@@ -14,9 +14,9 @@ use Rattle.words.specs.Overlap.{overlap}
 use Rattle.cascades.specs.Ending.{before}
 use Rattle.transducers.specs.Canonical.{Inside}
 use Rattle.minimal.specs.Matcher.{held}
-use Rattle.minimal.specs.OneRule.{borders, oneRule}
-use Rattle.minimal.proofs.Matcher.{held-in, held-all, said-after, said-match, said-on, moves-after}
-use Rattle.minimal.proofs.OneRule.{borders-move, overlap-step}
+use Rattle.minimal.specs.OneRule.{oneRule}
+use Rattle.minimal.proofs.Matcher.{held-in, held-all, said-after, said-match, said-on}
+use Rattle.minimal.proofs.OneRule.{overlap-step}
 use Rattle.minimal.proofs.Ending.{quiet-rule}
 use Rattle.workspace.specs.declared.Grid.{Grid}
 use Rattle.workspace.specs.Entries.{OUTPUT, FINAL}
@@ -25,6 +25,7 @@ use Rattle.workspace.specs.Cells.{Fits}
 use Rattle.workspace.specs.Holds.{Roomy}
 use Rattle.workspace.proofs.Appending.{part-length}
 use Rattle.onerule.specs.Rule.{rule, goes, says, keeps, afresh, restarts}
+use Rattle.onerule.proofs.Next.{goes-is, goes-le, goes-below}
 
 part-lesser : (u : List ℕ) (p j : ℕ) → j ≤ length u → part (min p j) j u ≡ part p j u
 part-lesser u p j h = by (decLt p j)
@@ -47,22 +48,6 @@ abbrev matched : List ℕ → ℕ → ℕ → List ℕ
 matched u j a = take j u ++ (a ∷ [])
 
 module _ (u : List ℕ) (p b : ℕ) where
-  goes-is : (j a : ℕ) → j < length u → goes u j a ≡ overlap u (matched u j a)
-  goes-is j a h = borders-move u j a h
-
-  pub goes-le : (j a : ℕ) → j < length u → goes u j a ≤ j + 1
-  goes-le j a h = omega (arith, goes-is j a h, overlap-step u j a h .0)
-
-  pub goes-end : (j a : ℕ) → j ≡ length u → j ≡ goes u j a
-  goes-end j a e = sym (moves-after u p b (borders u) j a e)
-
-  pub goes-below : (j a : ℕ) → j ≤ length u → goes u j a ≤ length u
-  goes-below j a h = by (ℕ-discrete j (length u))
-    where
-      by : Dec (j ≡ length u) → goes u j a ≤ length u
-      by (yes e) = omega (arith, goes-end j a e)
-      by (no g) = let l : j < length u = omega arith in omega (arith, goes-is j a l, overlap-step u j a l .1)
-
   held-part : (j : ℕ) → j < length u → keeps (rule u p b) j ≡ part p j u
   held-part j h = held-in u p b j h
 
@@ -77,7 +62,7 @@ module _ (u : List ℕ) (p b : ℕ) where
 
   module _ (j a next : ℕ) (h : j < length u) (to : next ≡ goes u j a) where
     next-is : next ≡ overlap u (matched u j a)
-    next-is = to ∙ goes-is j a h
+    next-is = to ∙ goes-is u j a h
 
     pub says-match : p < length u → next ≡ length u → b ∷ part (p + 1) (length u) u ≡ says (rule u p b) j a
     says-match inside e =
@@ -97,16 +82,16 @@ module _ (u : List ℕ) (p b : ℕ) where
 
     pub says-short : (next ≡ length u → ⊥) → p < next → part p (p + (j + 1 - next)) u ≡ says (rule u p b) j a
     says-short e lt =
-        let le = goes-le j a h in
+        let le = goes-le u j a h in
         let n : suc (length (part p j u)) - length (part p next u) ≡ j + 1 - next =
-        omega (arith, part-length u p j (omega arith), part-length u p next (omega (arith, goes-below j a (omega arith)))) in
+        omega (arith, part-length u p j (omega arith), part-length u p next (omega (arith, goes-below u j a (omega arith)))) in
         sym (says-back e ∙ ap (λ (i : ℕ). take i (part p j u ++ (a ∷ []))) n
         ∙ take-append-le (j + 1 - next) (part p j u) (a ∷ []) (omega (arith, part-length u p j (omega arith)))
         ∙ part-part u p (j + 1 - next) j (omega arith) (omega arith))
 
     pub says-back-all : (next ≡ length u → ⊥) → next ≤ p → part (min p j) j u ++ (a ∷ []) ≡ says (rule u p b) j a
     says-back-all e le =
-        let none : length (part p next u) ≡ 0 = omega (arith, part-length u p next (omega (arith, goes-below j a (omega arith)))) in
+        let none : length (part p next u) ≡ 0 = omega (arith, part-length u p next (omega (arith, goes-below u j a (omega arith)))) in
         ap (λ (l : List ℕ). l ++ (a ∷ [])) (part-lesser u p j (omega arith))
         ∙ sym (says-back e ∙ take-all (suc (length (part p j u)) - length (part p next u)) (part p j u ++ (a ∷ [])) (omega (arith, none, length-append (part p j u) (a ∷ []))))
 
@@ -171,7 +156,7 @@ module _ (u : List ℕ) (p b : ℕ) where
       where
         by : (t : Bool) → elim t as (λ x. ℕ) [ true ↦ 0 | false ↦ goes u j a ] ≤ length u
         by true = omega arith
-        by false = goes-below j a h
+        by false = goes-below u j a h
 
     pub inside-afresh : (k : ℕ) → Inside k (afresh e (rule u p b))
     inside-afresh k j a hj ha = omega (arith, restarts-below j a (omega arith))

@@ -45,7 +45,7 @@ pub record Room (g : Grid) (W : List ℕ) (r : Rule) : Type 0 where
   pub place-inside : r .place < length (r .pattern)
   pub deep : length (r .pattern) + FINAL ≤ g .depth
 
--- the row `back` has the next states of the longest border of the first j tags
+-- where some tags of u are matched, but not all, the row `back` has the next states of their longest border
 pub record Behind (g : Grid) (W : List ℕ) (back : ℕ) (u : List ℕ) (j : ℕ) : Type 0 where
   pub inside : back < g .rows
   pub next-is : 0 < j → j < length u → (a : ℕ) → a < g .tags → at g W back a NEXT ≡ goes u (border u j) a

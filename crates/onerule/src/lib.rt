@@ -1,5 +1,6 @@
 // The transducer of one rule: it does what the rule does, and is the smallest one that does.
-// Time O(k l) for k tags and a pattern of l tags, and the tags of the words that are written; space is the l + 1 rows of the result.
+// Time O(k l + w) for k tags, a pattern of l tags and w tags in the words that are written; space is the l + 1 rows of the result, and a
+// number for each prefix.
 // From 002, definition 2, after Simon's string matching automaton: the states are the prefixes of the pattern, here by their lengths.
 use borders::find_borders;
 use cascades::Rule;

@@ -7,8 +7,13 @@ use mathlib.Core.Bool.{Bool, true, false}
 use lib.ListN.{length, take, drop}
 use lib.Seq.{take-append-seam}
 use Rattle.words.specs.Word.{prefix}
-use Rattle.words.specs.Overlap.{overlap, skipped}
+use Rattle.words.specs.Overlap.{overlap}
 use Rattle.words.proofs.Word.{prefix-split, prefix-length}
+
+-- what stands before the overlap in t
+abbrev pub skipped : List ℕ → List ℕ → List ℕ
+skipped u [] = []
+skipped u (b ∷ t) = elim (prefix (b ∷ t) u) [ true ↦ [] | false ↦ b ∷ skipped u t ]
 
 -- the overlap ends the one word and begins the other
 pub overlap-split : (u t : List ℕ) → t ≡ skipped u t ++ take (overlap u t) u

@@ -10,8 +10,3 @@ use Rattle.words.specs.Word.{prefix}
 abbrev pub overlap : List ℕ → List ℕ → ℕ
 overlap u [] = 0
 overlap u (b ∷ t) = elim (prefix (b ∷ t) u) [ true ↦ suc (length t) | false ↦ overlap u t ]
-
--- what stands before the overlap in t
-abbrev pub skipped : List ℕ → List ℕ → List ℕ
-skipped u [] = []
-skipped u (b ∷ t) = elim (prefix (b ∷ t) u) [ true ↦ [] | false ↦ b ∷ skipped u t ]

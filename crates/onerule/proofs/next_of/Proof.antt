@@ -1,6 +1,5 @@
 -- `onerule::next_of` meets its contract.
-use Rattle.onerule.proofs.Words.{goes-end}
-use Rattle.onerule.proofs.Behind.{goes-on, goes-first, goes-back}
+use Rattle.onerule.proofs.Next.{goes-end, goes-on, goes-first, goes-back}
 use mathlib.Core.Path.{_∙_, sym}
 use lib.ListN.{length}
 use native.Mathlib.Omega.{arith}
@@ -14,7 +13,7 @@ use Rattle.words.proofs.wide.Reads as wide-reads
 use Rattle.workspace.proofs.get.Reads as get-reads
 
 returns : tie.Need-returns
-returns c = let a = c .before .before .before .args in goes-end (a .u .now) 0 0 (a .j) (a .a) (c .if1 .taken)
+returns c = let a = c .before .before .before .args in goes-end (a .u .now) (a .j) (a .a) (c .if1 .taken)
 
 shared-slice-read-wide : tie.Need-shared-slice-read-wide
 shared-slice-read-wide c = search needs

@@ -1,4 +1,5 @@
-use Rattle.onerule.proofs.Words.{goes-le, says-end, says-match, says-short, says-back-all}
+use Rattle.onerule.proofs.Next.{goes-le}
+use Rattle.onerule.proofs.Words.{says-end, says-match, says-short, says-back-all}
 use Rattle.workspace.proofs.Words.{more-size, written-more, written-is}
 use Rattle.workspace.proofs.Appending.{part-length}
 use Rattle.workspace.specs.Cells.{part}
@@ -53,13 +54,13 @@ add-push-part-2 : tie.Need-add-push-part-2
 add-push-part-2 c = search needs
 
 sub-push-part : tie.Need-sub-push-part
-sub-push-part c = let a = c .before .before .before .before .before .before .before .before .before .before .args in omega (arith, goes-le (a .u .now) (a .place) (a .tag) (a .j) (a .a) (omega arith))
+sub-push-part c = let a = c .before .before .before .before .before .before .before .before .before .before .args in omega (arith, goes-le (a .u .now) (a .j) (a .a) (omega arith))
 
 add-push-part-3 : tie.Need-add-push-part-3
 add-push-part-3 c = search needs
 
 push-part-requires-2 : tie.Need-push-part-requires-2
-push-part-requires-2 c κs = let a = c .before .before .before .before .before .before .before .before .before .before .args in omega (arith, goes-le (a .u .now) (a .place) (a .tag) (a .j) (a .a) (omega arith))
+push-part-requires-2 c κs = let a = c .before .before .before .before .before .before .before .before .before .before .args in omega (arith, goes-le (a .u .now) (a .j) (a .a) (omega arith))
 
 same-length-3 : tie.Need-same-length-3
 same-length-3 c = search needs

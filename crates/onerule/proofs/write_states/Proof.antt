@@ -1,5 +1,5 @@
 use Rattle.onerule.proofs.Words.{roomy-afresh, inside-afresh}
-use Rattle.onerule.proofs.Behind.{behind-filling}
+use Rattle.onerule.proofs.Next.{behind-filling}
 use Rattle.onerule.specs.Rule.{rule, afresh}
 use Rattle.workspace.proofs.Holds.{filling-start, filling-next, holds-table}
 use Rattle.workspace.specs.Holds.{Filling}

@@ -1,6 +1,7 @@
--- The row of the longest border: where a tag leads that does not follow in the pattern.
+-- Where a step leads: one tag of the pattern more, or where the row of the longest border says.
 use Prim.Native.Nat.{ℕ, _+_, _≤_, _<_}
 use native.Mathlib.Omega.{arith}
+use native.Mathlib.Decide.{ℕ-discrete}
 use native.Mathlib.Numerals.{add-one}
 use mathlib.Core.Path.{_≡_, refl, sym, ap, _∙_}
 use mathlib.Core.Bool.{Bool, true, false}
@@ -16,6 +17,8 @@ use Rattle.words.proofs.Overlap.{overlap-prefix}
 use Rattle.borders.specs.Border.{border}
 use Rattle.borders.proofs.Border.{overlap-grown, border-le, border-below, grown-none, grown-shorter, grown-longer, grown}
 use Rattle.cascades.specs.Ending.{before}
+use Rattle.minimal.specs.OneRule.{borders}
+use Rattle.minimal.proofs.Matcher.{moves-after}
 use Rattle.minimal.proofs.OneRule.{borders-move, overlap-step}
 use Rattle.minimal.proofs.Ending.{none-matched}
 use Rattle.workspace.specs.declared.Grid.{Grid}
@@ -25,6 +28,22 @@ use Rattle.workspace.specs.Holds.{Filling}
 use Rattle.onerule.specs.Rule.{rule, goes, afresh, restarts, Behind}
 
 module _ (u : List ℕ) where
+  pub goes-is : (j a : ℕ) → j < length u → goes u j a ≡ overlap u (take j u ++ (a ∷ []))
+  goes-is j a h = borders-move u j a h
+
+  pub goes-le : (j a : ℕ) → j < length u → goes u j a ≤ j + 1
+  goes-le j a h = omega (arith, goes-is j a h, overlap-step u j a h .0)
+
+  pub goes-end : (j a : ℕ) → j ≡ length u → j ≡ goes u j a
+  goes-end j a e = sym (moves-after u 0 0 (borders u) j a e)
+
+  pub goes-below : (j a : ℕ) → j ≤ length u → goes u j a ≤ length u
+  goes-below j a h = by (ℕ-discrete j (length u))
+    where
+      by : Dec (j ≡ length u) → goes u j a ≤ length u
+      by (yes e) = omega (arith, goes-end j a e)
+      by (no g) = let l : j < length u = omega arith in omega (arith, goes-is j a l, overlap-step u j a l .1)
+
   front : (j : ℕ) → prefix (take j u) u ≡ true
   front j = ap (prefix (take j u)) (sym (take-append-drop j u)) ∙ prefix-append (take j u) (drop j u)
 
@@ -32,7 +51,7 @@ module _ (u : List ℕ) where
   goes-grown : (j a : ℕ) → j < length u → goes u j a ≡ grown u a j
   goes-grown j a h =
       let all : overlap u (take j u) ≡ j = overlap-prefix u (take j u) (front j) ∙ length-take-le j u (omega arith) in
-      borders-move u j a h ∙ overlap-grown u a (take j u) (omega (arith, all)) ∙ ap (grown u a) all
+      goes-is j a h ∙ overlap-grown u a (take j u) (omega (arith, all)) ∙ ap (grown u a) all
 
   pub goes-on : (j a : ℕ) → j < length u → getD u j 0 ≡ a → j + 1 ≡ goes u j a
   goes-on j a h same = add-one j ∙ sym (goes-grown j a h ∙ grown-longer u a j same)
@@ -44,7 +63,7 @@ module _ (u : List ℕ) where
   goes-back j a h other some =
       goes-grown (border u j) a (omega (arith, border-below u j some (omega arith))) ∙ sym (goes-grown j a h ∙ grown-shorter u a j h other some)
 
-  -- before the last state an end tag leads to the start anyway
+  -- an end tag leads to the start anyway where it is not the pattern's last tag that is due
   restarts-back : (e : ℕ) → before e u ≡ false → (j a : ℕ) → j + 1 < length u → restarts e a (goes u j a) ≡ goes u j a
   restarts-back e free j a h = by (eqb a e) refl
     where
