@@ -16,7 +16,7 @@ use Rattle.words.proofs.Overlap.{overlap-le}
 use Rattle.borders.specs.Border.{border, compared, counted}
 
 -- one tag more of a prefix
-pub prefix-snoc : (t u : List ℕ) (a : ℕ) → prefix t u ≡ true → length t < length u → prefix (t ++ (a ∷ [])) u ≡ eqb (getD u (length t) 0) a
+prefix-snoc : (t u : List ℕ) (a : ℕ) → prefix t u ≡ true → length t < length u → prefix (t ++ (a ∷ [])) u ≡ eqb (getD u (length t) 0) a
 prefix-snoc [] [] a e h = absurd (omega arith)
 prefix-snoc [] (c ∷ u) a e h = by (ℕ-discrete a c)
   where
@@ -71,7 +71,7 @@ module _ (u : List ℕ) (a : ℕ) where
           at false = ap (λ (w : List ℕ). overlap u (drop 1 w ++ (a ∷ []))) front
       by false e l rest = rw (prefix-more (b ∷ t) (a ∷ []) u e) (rest l)
 
-  pub compared-tried : (t : List ℕ) → compared u a t ≡ tried u a (overlap u t)
+  compared-tried : (t : List ℕ) → compared u a t ≡ tried u a (overlap u t)
   compared-tried [] = refl
   compared-tried (b ∷ t) = by (prefix (b ∷ t) u) refl (compared-tried t)
     where
@@ -83,7 +83,7 @@ module _ (u : List ℕ) (a : ℕ) where
       by false e rest = rest
 
   -- at least one comparison
-  pub compared-some : (t : List ℕ) → 1 ≤ compared u a t
+  compared-some : (t : List ℕ) → 1 ≤ compared u a t
   compared-some [] = omega arith
   compared-some (b ∷ t) = by (prefix (b ∷ t) u) (eqb (getD u (suc (length t)) 0) a) (compared-some t)
     where
@@ -94,7 +94,7 @@ module _ (u : List ℕ) (a : ℕ) where
       by false d h = h
 
   -- each comparison lengthens the border, shortens it, or finds none to shorten
-  pub compared-few : (t : List ℕ) → compared u a t + overlap u (t ++ (a ∷ [])) ≤ overlap u t + 2
+  compared-few : (t : List ℕ) → compared u a t + overlap u (t ++ (a ∷ [])) ≤ overlap u t + 2
   compared-few [] = omega (arith, overlap-le u (a ∷ []) .0)
   compared-few (b ∷ t) = by (prefix (b ∷ t) u) refl (compared-few t)
     where

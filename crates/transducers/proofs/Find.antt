@@ -8,14 +8,6 @@ use lib.ListN.{length, getD}
 use Rattle.transducers.specs.Find.{find}
 
 module _ {A : Type 0} (p : A → Bool) (d : A) where
-  pub find-le : (l : List A) → find p l ≤ length l
-  find-le [] = omega arith
-  find-le (y ∷ l) = go (p y) (find-le l)
-    where
-      go : (b : Bool) → find p l ≤ length l → elim b [ true ↦ 0 | false ↦ suc (find p l) ] ≤ suc (length l)
-      go true h = omega arith
-      go false h = omega arith
-
   -- what is found passes
   pub find-hit : (l : List A) → find p l < length l → p (getD l (find p l) d) ≡ true
   find-hit [] h = absurd (omega arith)

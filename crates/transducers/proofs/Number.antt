@@ -46,25 +46,6 @@ pub noteAll-kept : (ss : List Step) (l : List ℕ) (j : ℕ) → j < length l �
 noteAll-kept [] l j h = refl
 noteAll-kept (s ∷ ss) l j h = noteAll-kept ss (note l (s .next)) j (omega (arith, note-length l (s .next))) ∙ note-kept l (s .next) j h
 
--- so whatever the search has come to is the front of the order
-pub visit-kept : (n : ℕ) (t : Table) (i : ℕ) (l : List ℕ)
-    → (length l ≤ length (visit n t i l)) × ((j : ℕ) → j < length l → getD (visit n t i l) j 0 ≡ getD l j 0)
-visit-kept zero t i l = (omega arith, λ j h. refl)
-visit-kept (suc n) t i l = go (ltb i (length l)) (visit-kept n t (suc i) m)
-  where
-    m : List ℕ
-    m = noteAll (row t (getD l i 0) .steps) l
-
-    Kept : List ℕ → List ℕ → Type 0
-    Kept l r = (length l ≤ length r) × ((j : ℕ) → j < length l → getD r j 0 ≡ getD l j 0)
-
-    longer : length l ≤ length m
-    longer = noteAll-length (row t (getD l i 0) .steps) l
-
-    go : (c : Bool) → Kept m (visit n t (suc i) m) → Kept l (elim c [ true ↦ visit n t (suc i) m | false ↦ l ])
-    go true h = (omega (arith, longer, h .0), λ j g. h .1 j (omega (arith, longer)) ∙ noteAll-kept (row t (getD l i 0) .steps) l j g)
-    go false h = (omega arith, λ j g. refl)
-
 -- a step before this one is before the next one, and before the next state's
 later : {k : ℕ} {T : Shape} {p a q : ℕ} → Earlier k T p a q → Earlier k T p (suc a) q
 later {p} {a} e = record { state = e .state; tag = e .tag; tag-below = e .tag-below; before = go (e .before); leads = e .leads }
@@ -326,9 +307,6 @@ module _ (k : ℕ) (t : Table) (rows : Rows k t) (sound : Sound k (shape t)) whe
   -- the members of the order
   pub order-below : (q : ℕ) → q < length (order t) → getD (order t) q 0 < length t
   order-below = ordered .members .below
-
-  pub order-length : length (order t) ≤ length t
-  order-length = visit-length k (shape t) (sound .next-below) (order t) (length (order t)) 0 ordered
 
   -- each stands in it once
   pub place-order : (q : ℕ) → q < length (order t) → place (order t) (getD (order t) q 0) ≡ q

@@ -99,17 +99,6 @@ prefix-left (a ∷ z) w (b ∷ u) e = by (eqb a b) (prefix-left z w u) e
 pub prefix-take : (z u : List ℕ) → prefix z u ≡ true → z ≡ take (length z) u
 prefix-take z u e = sym (ap (take (length z)) (prefix-split z u e) ∙ take-append-seam z (drop (length z) u))
 
--- a word that begins s and more, and is no shorter than s, begins with s
-pub prefix-shorter : (u s x : List ℕ) → length s ≤ length u → prefix u (s ++ x) ≡ true → prefix s u ≡ true
-prefix-shorter u [] x le h = refl
-prefix-shorter [] (b ∷ s) x le h = absurd (omega arith)
-prefix-shorter (a ∷ u) (b ∷ s) x le h = go (eqb a b) refl h (prefix-shorter u s x (omega arith))
-  where
-    go : (t : Bool) → eqb a b ≡ t → elim t [ true ↦ prefix u (s ++ x) | false ↦ false ] ≡ true
-        → (prefix u (s ++ x) ≡ true → prefix s u ≡ true) → prefix (b ∷ s) (a ∷ u) ≡ true
-    go true e h rest = rw (eq-eqb b a (sym (eqb-true a b e)), prefix) (rest h)
-    go false e h rest = absurd (false≢true h)
-
 pub prefix-length : (u w : List ℕ) → prefix u w ≡ true → length u ≤ length w
 prefix-length u w h = omega (arith, simp length-append at (ap length (prefix-split u w h)))
 
