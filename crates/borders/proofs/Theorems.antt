@@ -2,13 +2,12 @@
 use Prim.Native.Nat.{ℕ, _+_, _-_, _*_, _≤_, _<_}
 use native.Mathlib.Omega.{arith}
 use mathlib.Core.Path.{_≡_, sym, ap, _∙_}
-use mathlib.Core.Bool.{true}
 use mathlib.Core.List.{List, _++_, append-assoc}
 use lib.ListN.{length, take, drop, length-append, length-drop, take-append-drop}
 use lib.Seq.{length-take-le, drop-at, drop-drop}
 use Rattle.words.specs.Word.{prefix}
 use Rattle.words.specs.Overlap.{overlap}
-use Rattle.words.proofs.Word.{prefix-append}
+use Rattle.words.proofs.Word.{prefix-front}
 use Rattle.words.proofs.Overlap.{skipped, overlap-split, overlap-most}
 use Rattle.borders.specs.Border.{Border, border, comparisons}
 use Rattle.borders.proofs.Border.{border-below, counted-some, counted-few}
@@ -23,9 +22,6 @@ module _ (u : List ℕ) (j : ℕ) (some : 0 < j) (inside : j ≤ length u) where
 
   w-length : length w ≡ j
   w-length = length-take-le j u inside
-
-  first : length (take 1 w) ≡ 1
-  first = length-take-le 1 w (omega (arith, w-length))
 
   pub border-is : Border u j (border u j)
   border-is =
@@ -43,8 +39,7 @@ module _ (u : List ℕ) (j : ℕ) (some : 0 < j) (inside : j ≤ length u) where
   border-longest b h =
       let n : j - b ≡ 1 + (j - b - 1) = omega (arith, h .proper) in
       let ends : drop (j - b - 1) t ≡ take b u = drop-drop (j - b - 1) 1 w ∙ ap (λ (i : ℕ). drop i w) (sym n) ∙ h .same in
-      let begins : prefix (take b u) u ≡ true = ap (prefix (take b u)) (sym (take-append-drop b u)) ∙ prefix-append (take b u) (drop b u) in
-      omega (arith, h .proper, overlap-most u t (j - b - 1) (ap (λ (l : List ℕ). prefix l u) ends ∙ begins), length-drop 1 w, w-length)
+      omega (arith, h .proper, overlap-most u t (j - b - 1) (ap (λ (l : List ℕ). prefix l u) ends ∙ prefix-front b u), length-drop 1 w, w-length)
 
 -- "at least one for each tag after the first, and in all fewer than twice the pattern's length"
 pub few-comparisons : (u : List ℕ) → 0 < length u → (length u - 1 ≤ comparisons u) × (comparisons u < 2 * length u)

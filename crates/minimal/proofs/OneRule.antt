@@ -12,7 +12,7 @@ use lib.Seq.{take-all, take-take, drop-append-seam, take-set-le, getD-set-same, 
 use Rattle.words.specs.Word.{prefix}
 use Rattle.words.specs.Front.{first}
 use Rattle.words.specs.Overlap.{overlap}
-use Rattle.words.proofs.Word.{below-suc, prefix-append, prefix-split, prefix-left, prefix-take, prefix-length}
+use Rattle.words.proofs.Word.{below-suc, prefix-append, prefix-front, prefix-split, prefix-left, prefix-take, prefix-length}
 use Rattle.words.proofs.Overlap.{overlap-le, overlap-prefix}
 use Rattle.cascades.specs.Rule.{Rule, replaced, ValidRule}
 use Rattle.cascades.specs.Rewrite.{rewrite, apply}
@@ -159,13 +159,10 @@ module _ (l k : ℕ) (r : Rule) (ok : ValidRule l k r) where
   puts-in x j h =
       let w = take j (r .pattern) in
       let long : length w ≡ j = length-take-le j (r .pattern) (omega arith) in
-      let begins : prefix w (r .pattern) ≡ true =
-      ap (prefix w) (sym (take-append-drop j (r .pattern))) ∙ prefix-append w (drop j (r .pattern))
-      in
       ap (λ (s : ℕ). take (r .place) w ++ puts (oneRule r) s x) (sym long)
       ∙ does-before (r .pattern) (r .place) (r .tag) (λ z. prefix z (r .pattern)) (fronts-borders (r .pattern) (r .place) (ok .place-inside))
       (rewrite (r .pattern) (replaced r)) (λ y. y) (rewrites-once (r .pattern) (r .place) (ok .place-inside) (r .tag)) (borders (r .pattern)) length
-      (matches-borders (r .pattern) (r .place) (ok .place-inside)) (λ y rest. puts-end y) x w begins (omega arith)
+      (matches-borders (r .pattern) (r .place) (ok .place-inside)) (λ y rest. puts-end y) x w (prefix-front j (r .pattern)) (omega arith)
 
   -- 002, proposition 3
   pub does-rule : Same k (puts (oneRule r) 0) (apply r)
@@ -193,14 +190,12 @@ module _ (l k : ℕ) (r : Rule) (ok : ValidRule l k r) where
   walk-prefix zero h = refl
   walk-prefix (suc j) h =
       let more : take (suc j) u ≡ take j u ++ (getD u j 0 ∷ []) = take-suc u j 0 h in
-      let is-prefix : prefix (take (suc j) u) u ≡ true = ap (prefix (take (suc j) u)) (sym (take-append-drop (suc j) u))
-      ∙ prefix-append (take (suc j) u) (drop (suc j) u) in
       ap (walk (oneRule r) 0) more
       ∙ walk-append (oneRule r) 0 (take j u) (getD u j 0 ∷ [])
       ∙ ap (λ (s : ℕ). moves (length (r .pattern)) (borders (r .pattern)) s (getD u j 0)) (walk-prefix j (omega arith))
       ∙ borders-move (r .pattern) j (getD (r .pattern) j 0) h
       ∙ ap (overlap u) (sym more)
-      ∙ overlap-prefix u (take (suc j) u) is-prefix
+      ∙ overlap-prefix u (take (suc j) u) (prefix-front (suc j) u)
       ∙ length-take-le (suc j) u h
 
   -- the rest of u completes the match

@@ -8,11 +8,10 @@ use mathlib.Core.Bool.{Bool, true, false}
 use mathlib.Core.List.{List, [], _∷_, _++_}
 use borrow.Author.Tests.{eqb-true}
 use lib.Dec.{eqb}
-use lib.ListN.{length, getD, take, drop, take-append-drop}
+use lib.ListN.{length, getD, take}
 use lib.Seq.{length-take-le}
-use Rattle.words.specs.Word.{prefix}
 use Rattle.words.specs.Overlap.{overlap}
-use Rattle.words.proofs.Word.{prefix-append}
+use Rattle.words.proofs.Word.{prefix-front}
 use Rattle.words.proofs.Overlap.{overlap-prefix}
 use Rattle.borders.specs.Border.{border}
 use Rattle.borders.proofs.Border.{overlap-grown, border-le, border-below, grown-none, grown-shorter, grown-longer, grown}
@@ -44,13 +43,10 @@ module _ (u : List ℕ) where
       by (yes e) = omega (arith, goes-end j a e)
       by (no g) = let l : j < length u = omega arith in omega (arith, goes-is j a l, overlap-step u j a l .1)
 
-  front : (j : ℕ) → prefix (take j u) u ≡ true
-  front j = ap (prefix (take j u)) (sym (take-append-drop j u)) ∙ prefix-append (take j u) (drop j u)
-
   -- a state's step is one tag more, or that of its longest border
   goes-grown : (j a : ℕ) → j < length u → goes u j a ≡ grown u a j
   goes-grown j a h =
-      let all : overlap u (take j u) ≡ j = overlap-prefix u (take j u) (front j) ∙ length-take-le j u (omega arith) in
+      let all : overlap u (take j u) ≡ j = overlap-prefix u (take j u) (prefix-front j u) ∙ length-take-le j u (omega arith) in
       goes-is j a h ∙ overlap-grown u a (take j u) (omega (arith, all)) ∙ ap (grown u a) all
 
   pub goes-on : (j a : ℕ) → j < length u → getD u j 0 ≡ a → j + 1 ≡ goes u j a

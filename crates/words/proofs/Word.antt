@@ -59,6 +59,10 @@ pub prefix-append : (u y : List ℕ) → prefix u (u ++ y) ≡ true
 prefix-append [] y = refl
 prefix-append (a ∷ u) y = rw (eq-eqb a a refl, prefix) (prefix-append u y)
 
+-- a front of a word is a prefix of it
+pub prefix-front : (n : ℕ) (u : List ℕ) → prefix (take n u) u ≡ true
+prefix-front n u = ap (prefix (take n u)) (sym (take-append-drop n u)) ∙ prefix-append (take n u) (drop n u)
+
 -- one tag more of a prefix
 same-tag : (a b : ℕ) (u w : List ℕ) → a ≡ b → prefix (a ∷ u) (b ∷ w) ≡ prefix u w
 same-tag a b u w e = cc (eq-eqb a b e)
