@@ -43,7 +43,7 @@ module _ (g : Grid) (W : List ℕ) (n ceiling end : ℕ) (r : Rule) (ok : Addabl
   abbrev makes : List ℕ → List ℕ
   makes = λ w. piecewise end (apply r) (ok .makes w)
 
-  pub room : Room g W r
+  pub room : Room g W (r .pattern) (r .place)
   room =
       record {
         sized = ok .sized;

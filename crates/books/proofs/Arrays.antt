@@ -11,9 +11,12 @@ use lib.Dec.{ltb}
 use lib.ListN.{length, getD, set, take, replicate, length-set, getD-replicate}
 use lib.Seq.{length-take-le, getD-take, getD-set-same, getD-set-other, take-suc-set, set-out}
 use Rattle.limits.specs.Limits.{most-rules, longest-pattern}
+use Rattle.cascades.specs.Rule.{Kind}
+use Rattle.books.specs.Book.{opener}
 use Rattle.books.specs.Read.{closing, opened, longer}
 use Rattle.books.specs.Arrays.{Arrays, holding, Shaped, placeAt, tagAt, ruleAt, rulesDown}
 use Rattle.books.specs.Resume.{faulted}
+use Rattle.books.proofs.Step.{opener-kind}
 
 pub down-last : (a : Arrays) (m : ℕ) → (m ≡ 0 → ⊥) → rulesDown a m ≡ ruleAt a (m - 1) ∷ rulesDown a (m - 1)
 down-last a zero n = absurd (n refl)
@@ -84,9 +87,9 @@ abbrev pub tagged-arrays : Arrays → ℕ → ℕ → Arrays
 tagged-arrays a i t =
     holding (set (a .rows) i (set (getD (a .rows) i []) (getD (a .lengths) i 0) t)) (set (a .lengths) i (getD (a .lengths) i 0 + 1)) (a .heads)
 
--- the arrays after a rule with no pattern yet has been put at m
-abbrev pub opened-arrays : Arrays → ℕ → ℕ → ℕ → Arrays
-opened-arrays a m p t = holding (a .rows) (set (a .lengths) m 0) (set (a .heads) m (p ∷ t ∷ []))
+-- the arrays after a rule with no pattern yet, opened by the command c, has been put at m
+abbrev pub opened-arrays : Arrays → ℕ → ℕ → ℕ → ℕ → Arrays
+opened-arrays a m p t c = holding (a .rows) (set (a .lengths) m 0) (set (a .heads) m (p ∷ t ∷ c ∷ []))
 
 set-short : (l : List ℕ) (i v n : ℕ) → v ≤ n → ((j : ℕ) → getD l j 0 ≤ n) → (j : ℕ) → getD (set l i v) j 0 ≤ n
 set-short l i v n hv h j = at (ℕ-discrete j i) (decLt i (length l))
@@ -142,34 +145,35 @@ module _ (a : Arrays) (h : Shaped a) (i : ℕ) (few : i < most-rules) (t : ℕ) 
             )),
       )
 
-module _ (a : Arrays) (h : Shaped a) (m : ℕ) (few : m < most-rules) (p t : ℕ) where
-  pub opened-shaped : Shaped (opened-arrays a m p t)
+module _ (a : Arrays) (h : Shaped a) (m : ℕ) (few : m < most-rules) (p t c : ℕ) where
+  pub opened-shaped : Shaped (opened-arrays a m p t c)
   opened-shaped =
       record {
         rows-long = h .rows-long;
         row-long = h .row-long;
         lengths-long = length-set (a .lengths) m 0 ∙ h .lengths-long;
         length-short = set-short (a .lengths) m 0 longest-pattern (omega arith) (h .length-short);
-        heads-long = length-set (a .heads) m (p ∷ t ∷ []) ∙ h .heads-long;
-        head-long = set-long-rows (a .heads) m most-rules (p ∷ t ∷ []) 2 (omega (arith, h .heads-long)) refl (h .head-long);
+        heads-long = length-set (a .heads) m (p ∷ t ∷ c ∷ []) ∙ h .heads-long;
+        head-long = set-long-rows (a .heads) m most-rules (p ∷ t ∷ c ∷ []) 3 (omega (arith, h .heads-long)) refl (h .head-long);
       }
 
-  pub opened-down : rulesDown (opened-arrays a m p t) (suc m) ≡ opened p t ∷ rulesDown a m
-  opened-down =
+  pub opened-down : (kind : Kind) → c ≡ opener kind → rulesDown (opened-arrays a m p t c) (suc m) ≡ opened kind p t ∷ rulesDown a m
+  opened-down kind is =
       cc (
         getD-set-same (a .lengths) m 0 0 (omega (arith, h .lengths-long)),
-        getD-set-same (a .heads) m (p ∷ t ∷ []) [] (omega (arith, h .heads-long)),
-        down-same a (opened-arrays a m p t) m
+        getD-set-same (a .heads) m (p ∷ t ∷ c ∷ []) [] (omega (arith, h .heads-long)),
+        opener-kind kind,
+        down-same a (opened-arrays a m p t c) m
             (λ j l. cc (
               getD-set-other (a .lengths) m j 0 0 (λ e. omega arith),
-              getD-set-other (a .heads) m j (p ∷ t ∷ []) [] (λ e. omega arith),
+              getD-set-other (a .heads) m j (p ∷ t ∷ c ∷ []) [] (λ e. omega arith),
             )),
       )
 
 -- ---- arrays of zeros
 
 abbrev pub fresh : Arrays
-fresh = holding (replicate most-rules (replicate longest-pattern 0)) (replicate most-rules 0) (replicate most-rules (replicate 2 0))
+fresh = holding (replicate most-rules (replicate longest-pattern 0)) (replicate most-rules 0) (replicate most-rules (replicate 3 0))
 
 zeros : (n i : ℕ) → _≡_ {A = ℕ} (getD (replicate n 0) i 0) 0
 zeros zero i = refl
@@ -184,5 +188,5 @@ fresh-shaped =
       lengths-long = refl;
       length-short = λ i. omega (arith, zeros most-rules i);
       heads-long = refl;
-      head-long = λ i h. ap length (getD-replicate most-rules i (replicate 2 0) [] h);
+      head-long = λ i h. ap length (getD-replicate most-rules i (replicate 3 0) [] h);
     }

@@ -2,16 +2,19 @@
 use Prim.Native.Nat.{ℕ, zero, suc, _+_, _-_, _≤_, _<_}
 use native.Mathlib.Omega.{arith}
 use native.Mathlib.Numerals.{add-one}
-use mathlib.Core.Path.{_≡_, refl, _∙_}
+use mathlib.Core.Path.{_≡_, refl, ap, _∙_}
 use mathlib.Core.List.{List, [], _∷_}
 use borrow.Author.Tests.{lt-ltb, le-ltb, lt-leb, le-leb, ne-eqb}
 use lib.ListN.{length, getD, drop}
 use lib.Seq.{drop-cons, drop-length}
 use Rattle.limits.specs.Limits.{fewest-tags, most-tags, most-rules, longest-pattern}
 use Rattle.answers.specs.Outcome.{result, refused, nothing, byte}
-use Rattle.books.specs.Read.{Stage, opening, size, command, place, new-tag, pattern-tag, ended, closing, opened, longer, step, finish, readFrom, read}
+use Rattle.cascades.specs.Rule.{Kind}
+use Rattle.books.specs.Book.{opener}
+use Rattle.books.specs.Read.{Stage, opening, size, command, place, new-tag, pattern-tag, ended, closing, nextRule, opened, longer, step, finish, readFrom, read}
 use Rattle.books.specs.Arrays.{Arrays, Shaped, ruleAt, rulesDown, cascadeOf}
 use Rattle.books.specs.Resume.{readCommands, faulted}
+use Rattle.books.proofs.Step.{step-opens}
 use Rattle.books.proofs.Arrays.{down-last, down-length, pattern-long, tagged-arrays, tagged-down, opened-arrays, opened-down}
 
 module _ (s : List ℕ) (st : Stage) (at : ℕ) where
@@ -57,9 +60,11 @@ module _ (s : List ℕ) (k m : ℕ) (a : Arrays) (at : ℕ) where
   command-missing e = read-end s (command k (rulesDown a m)) at e
 
   module _ (h : at < length s) where
-    pub command-unknown : (getD s at 0 ≡ 0x00 → ⊥) → (getD s at 0 ≡ 0x21 → ⊥) → (getD s at 0 ≡ 0x22 → ⊥) → readCommands s k m a at ≡ refused 1 (byte at)
-    command-unknown x y z =
-        read-stop s (command k (rulesDown a m)) at 1 h (cc (ne-eqb (getD s at 0) 0x00 x, ne-eqb (getD s at 0) 0x21 y, ne-eqb (getD s at 0) 0x22 z))
+    pub command-unknown : (getD s at 0 ≡ 0x00 → ⊥) → (getD s at 0 ≡ 0x21 → ⊥) → (getD s at 0 ≡ 0x24 → ⊥) → (getD s at 0 ≡ 0x22 → ⊥)
+        → readCommands s k m a at ≡ refused 1 (byte at)
+    command-unknown x y z v =
+        read-stop s (command k (rulesDown a m)) at 1 h
+        (cc (ne-eqb (getD s at 0) 0x00 x, ne-eqb (getD s at 0) 0x21 y, ne-eqb (getD s at 0) 0x24 z, ne-eqb (getD s at 0) 0x22 v))
 
     -- 00
     module _ (e : getD s at 0 ≡ 0x00) where
@@ -77,44 +82,47 @@ module _ (s : List ℕ) (k m : ℕ) (a : Arrays) (at : ℕ) where
         pub end-whole : at + 1 ≡ length s → readCommands s k m a at ≡ result (cascadeOf k a m)
         end-whole l = end-closed ∙ read-end s (ended k (rulesDown a m)) (at + 1) l
 
-    -- 21
-    module _ (e : getD s at 0 ≡ 0x21) where
+    -- 21 and 24
+    module _ (kind : Kind) (e : getD s at 0 ≡ opener kind) where
+      rule-opens : step (command k (rulesDown a m)) (getD s at 0) ≡ nextRule k kind (rulesDown a m)
+      rule-opens = ap (step (command k (rulesDown a m))) e ∙ step-opens k (rulesDown a m) kind
+
       pub rule-fault : (n : ℕ) → closing (rulesDown a m) ≡ faulted n → (n ≡ 0 → ⊥) → readCommands s k m a at ≡ refused n (byte at)
       rule-fault zero f d = absurd (d refl)
-      rule-fault (suc n) f d = read-stop s (command k (rulesDown a m)) at (suc n) h (cc)
+      rule-fault (suc n) f d = read-stop s (command k (rulesDown a m)) at (suc n) h (rule-opens ∙ cc)
 
       module _ (f : closing (rulesDown a m) ≡ faulted 0) where
         pub rule-seventeenth : most-rules ≤ m → readCommands s k m a at ≡ refused 7 (byte at)
         rule-seventeenth l =
-            read-stop s (command k (rulesDown a m)) at 7 h (cc (le-ltb (length (rulesDown a m)) most-rules (omega (arith, down-length a m))))
+            read-stop s (command k (rulesDown a m)) at 7 h (rule-opens ∙ cc (le-ltb (length (rulesDown a m)) most-rules (omega (arith, down-length a m))))
 
         module _ (few : m < most-rules) where
-          rule-counted : readCommands s k m a at ≡ readFrom (place k (rulesDown a m)) (at + 1) (drop (at + 1) s)
+          rule-counted : readCommands s k m a at ≡ readFrom (place k kind (rulesDown a m)) (at + 1) (drop (at + 1) s)
           rule-counted =
-              read-go s (command k (rulesDown a m)) at (place k (rulesDown a m)) h
-              (cc (lt-ltb (length (rulesDown a m)) most-rules (omega (arith, down-length a m))))
+              read-go s (command k (rulesDown a m)) at (place k kind (rulesDown a m)) h
+              (rule-opens ∙ cc (lt-ltb (length (rulesDown a m)) most-rules (omega (arith, down-length a m))))
 
           pub rule-no-place : at + 1 ≡ length s → readCommands s k m a at ≡ refused 1 (byte (at + 1))
-          rule-no-place l = rule-counted ∙ read-end s (place k (rulesDown a m)) (at + 1) l
+          rule-no-place l = rule-counted ∙ read-end s (place k kind (rulesDown a m)) (at + 1) l
 
-          rule-placed : at + 1 < length s → readCommands s k m a at ≡ readFrom (new-tag k (rulesDown a m) (getD s (at + 1) 0)) (at + 1 + 1) (drop (at + 1 + 1) s)
-          rule-placed l = rule-counted ∙ read-go s (place k (rulesDown a m)) (at + 1) (new-tag k (rulesDown a m) (getD s (at + 1) 0)) l refl
+          rule-placed : at + 1 < length s → readCommands s k m a at ≡ readFrom (new-tag k kind (rulesDown a m) (getD s (at + 1) 0)) (at + 1 + 1) (drop (at + 1 + 1) s)
+          rule-placed l = rule-counted ∙ read-go s (place k kind (rulesDown a m)) (at + 1) (new-tag k kind (rulesDown a m) (getD s (at + 1) 0)) l refl
 
           pub rule-no-tag : at + 1 + 1 ≡ length s → readCommands s k m a at ≡ refused 1 (byte (at + 1 + 1))
-          rule-no-tag l = rule-placed (omega arith) ∙ read-end s (new-tag k (rulesDown a m) (getD s (at + 1) 0)) (at + 1 + 1) l
+          rule-no-tag l = rule-placed (omega arith) ∙ read-end s (new-tag k kind (rulesDown a m) (getD s (at + 1) 0)) (at + 1 + 1) l
 
           pub rule-high : at + 1 + 1 < length s → k ≤ getD s (at + 1 + 1) 0 → readCommands s k m a at ≡ refused 4 (byte (at + 1 + 1))
           rule-high l b =
               rule-placed (omega arith)
-              ∙ read-stop s (new-tag k (rulesDown a m) (getD s (at + 1) 0)) (at + 1 + 1) 4 l (cc (le-ltb (getD s (at + 1 + 1) 0) k b))
+              ∙ read-stop s (new-tag k kind (rulesDown a m) (getD s (at + 1) 0)) (at + 1 + 1) 4 l (cc (le-ltb (getD s (at + 1 + 1) 0) k b))
 
           pub rule-opened : Shaped a → at + 1 + 1 < length s → getD s (at + 1 + 1) 0 < k
-              → readCommands s k m a at ≡ readCommands s k (m + 1) (opened-arrays a m (getD s (at + 1) 0) (getD s (at + 1 + 1) 0)) (at + 1 + 1 + 1)
+              → readCommands s k m a at ≡ readCommands s k (m + 1) (opened-arrays a m (getD s (at + 1) 0) (getD s (at + 1 + 1) 0) (getD s at 0)) (at + 1 + 1 + 1)
           rule-opened sh l b =
               rule-placed (omega arith)
-              ∙ read-go s (new-tag k (rulesDown a m) (getD s (at + 1) 0)) (at + 1 + 1)
-              (command k (opened (getD s (at + 1) 0) (getD s (at + 1 + 1) 0) ∷ rulesDown a m)) l (cc (lt-ltb (getD s (at + 1 + 1) 0) k b))
-              ∙ cc (opened-down a sh m few (getD s (at + 1) 0) (getD s (at + 1 + 1) 0), add-one m)
+              ∙ read-go s (new-tag k kind (rulesDown a m) (getD s (at + 1) 0)) (at + 1 + 1)
+              (command k (opened kind (getD s (at + 1) 0) (getD s (at + 1 + 1) 0) ∷ rulesDown a m)) l (cc (lt-ltb (getD s (at + 1 + 1) 0) k b))
+              ∙ cc (opened-down a sh m few (getD s (at + 1) 0) (getD s (at + 1 + 1) 0) (getD s at 0) kind e, add-one m)
 
     -- 22
     module _ (e : getD s at 0 ≡ 0x22) where

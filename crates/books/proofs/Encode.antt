@@ -12,9 +12,10 @@ use Rattle.limits.specs.Limits.{fewest-tags, most-tags, most-rules, longest-pat
 use Rattle.answers.specs.Outcome.{Place, Outcome, result, refused, nothing, byte, andThen, provided}
 use Rattle.words.specs.Word.{Below}
 use Rattle.words.proofs.Word.{below-append}
-use Rattle.cascades.specs.Rule.{Rule, Cascade, ValidRule, ValidRules, ending}
-use Rattle.books.specs.Book.{Valid, encodePattern, encodeRule, encodeRules, encode}
+use Rattle.cascades.specs.Rule.{Kind, Rule, Cascade, ValidRule, ValidRules, ending}
+use Rattle.books.specs.Book.{Valid, opener, encodePattern, encodeRule, encodeRules, encode}
 use Rattle.books.specs.Read.{Stage, opening, size, command, place, new-tag, pattern-tag, ended, closed, closing, nextTag, nextRule, below, opened, longer, step, finish, readFrom, read}
+use Rattle.books.proofs.Step.{by-command, step-opens}
 
 -- ---- encodings are read
 
@@ -34,7 +35,7 @@ closed-valid l k r h =
     )
 
 abbrev with-pattern : Rule → List ℕ → Rule
-with-pattern r u = record { pattern = u; place = r .place; tag = r .tag }
+with-pattern r u = record { kind = r .kind; pattern = u; place = r .place; tag = r .tag }
 
 below-go : (k b : ℕ) (s : Stage) → b < k → below k b s ≡ result s
 below-go k b s h = cc (lt-ltb b k h)
@@ -68,15 +69,16 @@ accepts-rules k rs (r ∷ more) z h v =
     let rule : Accepts (command k (r ∷ rs)) rest c =
     subst (Accepts (command k (r ∷ rs)) rest) e (accepts-rules k (r ∷ rs) more (closed-valid longest-pattern k r (v .0)) m (v .1))
     in
-    let pattern : Accepts (command k (opened (r .place) (r .tag) ∷ rs)) (encodePattern (r .pattern) ++ rest) c =
-    accepts-pattern k (opened (r .place) (r .tag)) rs (r .pattern) rest c (omega (arith, v .0 .short)) (v .0 .pattern-below) rule
+    let pattern : Accepts (command k (opened (r .kind) (r .place) (r .tag) ∷ rs)) (encodePattern (r .pattern) ++ rest) c =
+    accepts-pattern k (opened (r .kind) (r .place) (r .tag)) rs (r .pattern) rest c (omega (arith, v .0 .short)) (v .0 .pattern-below) rule
     in
     let bytes : encodeRule r ++ encodeRules more ++ (0x00 ∷ []) ≡ encodeRule r ++ rest = append-assoc (encodeRule r) (encodeRules more) (0x00 ∷ []) in
     subst (λ (bs : List ℕ). Accepts (command k rs) bs c) (sym bytes)
-    (accepts-next (command k rs) (place k rs) 0x21 (r .place ∷ r .tag ∷ (encodePattern (r .pattern) ++ rest)) c (cc (z, lt-ltb (length rs) most-rules n))
-    (accepts-next (place k rs) (new-tag k rs (r .place)) (r .place) (r .tag ∷ (encodePattern (r .pattern) ++ rest)) c refl
-    (accepts-next (new-tag k rs (r .place)) (command k (opened (r .place) (r .tag) ∷ rs)) (r .tag) (encodePattern (r .pattern) ++ rest) c
-    (below-go k (r .tag) (command k (opened (r .place) (r .tag) ∷ rs)) (v .0 .tag-below)) pattern)))
+    (accepts-next (command k rs) (place k (r .kind) rs) (opener (r .kind)) (r .place ∷ r .tag ∷ (encodePattern (r .pattern) ++ rest)) c
+    (step-opens k rs (r .kind) ∙ cc (z, lt-ltb (length rs) most-rules n))
+    (accepts-next (place k (r .kind) rs) (new-tag k (r .kind) rs (r .place)) (r .place) (r .tag ∷ (encodePattern (r .pattern) ++ rest)) c refl
+    (accepts-next (new-tag k (r .kind) rs (r .place)) (command k (opened (r .kind) (r .place) (r .tag) ∷ rs)) (r .tag) (encodePattern (r .pattern) ++ rest) c
+    (below-go k (r .tag) (command k (opened (r .kind) (r .place) (r .tag) ∷ rs)) (v .0 .tag-below)) pattern)))
 
 pub reads-encoding : (c : Cascade) → Valid c → read (encode c) ≡ result c
 reads-encoding c v =
@@ -102,8 +104,8 @@ abbrev read-so-far : Stage → List ℕ
 read-so-far opening = []
 read-so-far size = 0x20 ∷ []
 read-so-far (command k rs) = 0x20 ∷ k ∷ down rs
-read-so-far (place k rs) = 0x20 ∷ k ∷ (down rs ++ (0x21 ∷ []))
-read-so-far (new-tag k rs p) = 0x20 ∷ k ∷ (down rs ++ (0x21 ∷ p ∷ []))
+read-so-far (place k kind rs) = 0x20 ∷ k ∷ (down rs ++ (opener kind ∷ []))
+read-so-far (new-tag k kind rs p) = 0x20 ∷ k ∷ (down rs ++ (opener kind ∷ p ∷ []))
 read-so-far (pattern-tag k r rs) = 0x20 ∷ k ∷ (down (r ∷ rs) ++ (0x22 ∷ []))
 read-so-far (ended k rs) = 0x20 ∷ k ∷ (down rs ++ (0x00 ∷ []))
 
@@ -126,8 +128,8 @@ abbrev Shown : Stage → Type 0
 Shown opening = Unit {0}
 Shown size = Unit {0}
 Shown (command k rs) = Tags k × (length rs ≤ most-rules) × OpenFirst k rs
-Shown (place k rs) = Tags k × (length rs < most-rules) × ValidRules longest-pattern k rs
-Shown (new-tag k rs p) = Tags k × (length rs < most-rules) × ValidRules longest-pattern k rs
+Shown (place k kind rs) = Tags k × (length rs < most-rules) × ValidRules longest-pattern k rs
+Shown (new-tag k kind rs p) = Tags k × (length rs < most-rules) × ValidRules longest-pattern k rs
 Shown (pattern-tag k r rs) = Tags k × (length rs < most-rules) × Open longest-pattern k r × (length (r .pattern) < longest-pattern) × ValidRules longest-pattern k rs
 Shown (ended k rs) = Tags k × (length rs ≤ most-rules) × ValidRules longest-pattern k rs
 
@@ -164,10 +166,6 @@ valid-closing : (k : ℕ) (rs : List Rule) → OpenFirst k rs → closing rs ≡
 valid-closing k [] o z = tt
 valid-closing k (r ∷ rs) o z = (valid-closed k r (o .0) z, o .1)
 
-by-test : (P : Outcome Stage → Type 0) (t : Bool) (x y : Outcome Stage) → (t ≡ true → P x) → (t ≡ false → P y) → P (elim t [ true ↦ x | false ↦ y ])
-by-test P true x y f g = f refl
-by-test P false x y f g = g refl
-
 by-provided : (P : Outcome Stage → Type 0) (n : ℕ) (t : Bool) (x : Outcome Stage) → (t ≡ true → P x) → P (refused n nothing) → P (provided n t x)
 by-provided P n true x f r = f refl
 by-provided P n false x f r = r
@@ -191,34 +189,34 @@ longer-open k r a o n h =
 -- after a tag of the pattern
 longer-bytes : (r : Rule) (rs : List Rule) (a : ℕ) → down (longer r a ∷ rs) ≡ down (r ∷ rs) ++ (0x22 ∷ []) ++ (a ∷ [])
 longer-bytes r rs a =
-    let e = ap (λ (x : List ℕ). down rs ++ (0x21 ∷ r .place ∷ r .tag ∷ x)) (encodePattern-snoc (r .pattern) a) in
+    let e = ap (λ (x : List ℕ). down rs ++ (opener (r .kind) ∷ r .place ∷ r .tag ∷ x)) (encodePattern-snoc (r .pattern) a) in
     e ∙ simp append-assoc
 
 module _ (k : ℕ) (rs : List Rule) (b : ℕ) (h : Shown (command k rs)) where
-  command-ends : eqb b 0x00 ≡ true → Follows (command k rs) b (andThen (closing rs) (λ u. result (ended k rs)))
+  command-ends : b ≡ 0x00 → Follows (command k rs) b (andThen (closing rs) (λ u. result (ended k rs)))
   command-ends e =
       by-closing (Follows (command k rs) b) (closing rs) (result (ended k rs))
-      (λ z. ((h .0, h .1, valid-closing k rs (h .2) z), ap (λ (x : ℕ). 0x20 ∷ k ∷ (down rs ++ (x ∷ []))) (sym (eqb-true b 0x00 e))))
+      (λ z. ((h .0, h .1, valid-closing k rs (h .2) z), ap (λ (x : ℕ). 0x20 ∷ k ∷ (down rs ++ (x ∷ []))) (sym e)))
       (λ n p. tt)
 
-  command-opens : eqb b 0x21 ≡ true → Follows (command k rs) b (andThen (closing rs) (λ u. nextRule k rs))
-  command-opens e =
-      by-closing (Follows (command k rs) b) (closing rs) (nextRule k rs)
-      (λ z. by-provided (Follows (command k rs) b) 7 (ltb (length rs) most-rules) (result (place k rs))
+  command-opens : (kind : Kind) → b ≡ opener kind → Follows (command k rs) b (nextRule k kind rs)
+  command-opens kind e =
+      by-closing (Follows (command k rs) b) (closing rs) (provided 7 (ltb (length rs) most-rules) (result (place k kind rs)))
+      (λ z. by-provided (Follows (command k rs) b) 7 (ltb (length rs) most-rules) (result (place k kind rs))
       (λ t. (
         (h .0, ltb-true (length rs) most-rules t, valid-closing k rs (h .2) z),
-        ap (λ (x : ℕ). 0x20 ∷ k ∷ (down rs ++ (x ∷ []))) (sym (eqb-true b 0x21 e)),
+        ap (λ (x : ℕ). 0x20 ∷ k ∷ (down rs ++ (x ∷ []))) (sym e),
       ))
       tt)
       (λ n p. tt)
 
-command-tag : (k : ℕ) (rs : List Rule) (b : ℕ) → Shown (command k rs) → eqb b 0x22 ≡ true → Follows (command k rs) b (nextTag k rs)
+command-tag : (k : ℕ) (rs : List Rule) (b : ℕ) → Shown (command k rs) → b ≡ 0x22 → Follows (command k rs) b (nextTag k rs)
 command-tag k [] b h e = tt
 command-tag k (r ∷ rs) b h e =
     by-provided (Follows (command k (r ∷ rs)) b) 3 (ltb (length (r .pattern)) longest-pattern) (result (pattern-tag k r rs))
     (λ t. (
       (h .0, omega (arith, h .1), h .2 .0, ltb-true (length (r .pattern)) longest-pattern t, h .2 .1),
-      ap (λ (x : ℕ). 0x20 ∷ k ∷ (down (r ∷ rs) ++ (x ∷ []))) (sym (eqb-true b 0x22 e)),
+      ap (λ (x : ℕ). 0x20 ∷ k ∷ (down (r ∷ rs) ++ (x ∷ []))) (sym e),
     ))
     tt
 
@@ -235,18 +233,13 @@ step-follows size b h =
     both true false e f g = let z : _≡_ {A = ℕ} 0 1 = cc in absurd (omega arith)
     both false t e f g = let z : _≡_ {A = ℕ} 0 1 = cc in absurd (omega arith)
 step-follows (command k rs) b h =
-    let P = Follows (command k rs) b in
-    let tag : Outcome Stage = elim (eqb b 0x22) [ true ↦ nextTag k rs | false ↦ refused 1 nothing ] in
-    let rule : Outcome Stage = elim (eqb b 0x21) [ true ↦ andThen (closing rs) (λ u. nextRule k rs) | false ↦ tag ] in
-    by-test P (eqb b 0x00) (andThen (closing rs) (λ u. result (ended k rs))) rule (command-ends k rs b h)
-    (λ e. by-test P (eqb b 0x21) (andThen (closing rs) (λ u. nextRule k rs)) tag (command-opens k rs b h)
-    (λ f. by-test P (eqb b 0x22) (nextTag k rs) (refused 1 nothing) (command-tag k rs b h) (λ g. tt)))
-step-follows (place k rs) b h = (h, ap (λ (x : List ℕ). 0x20 ∷ k ∷ x) (sym (append-assoc (down rs) (0x21 ∷ []) (b ∷ []))))
-step-follows (new-tag k rs p) b h =
-    by-provided (Follows (new-tag k rs p) b) 4 (ltb b k) (result (command k (opened p b ∷ rs)))
+    by-command (Follows (command k rs) b) k rs b (command-ends k rs b h) (command-opens k rs b h) (command-tag k rs b h) tt
+step-follows (place k kind rs) b h = (h, ap (λ (x : List ℕ). 0x20 ∷ k ∷ x) (sym (append-assoc (down rs) (opener kind ∷ []) (b ∷ []))))
+step-follows (new-tag k kind rs p) b h =
+    by-provided (Follows (new-tag k kind rs p) b) 4 (ltb b k) (result (command k (opened kind p b ∷ rs)))
     (λ e. (
       (h .0, h .1, (record { short = omega arith; pattern-below = tt; tag-below = ltb-true b k e }, h .2)),
-      ap (λ (x : List ℕ). 0x20 ∷ k ∷ x) (sym (append-assoc (down rs) (0x21 ∷ p ∷ []) (b ∷ []))),
+      ap (λ (x : List ℕ). 0x20 ∷ k ∷ x) (sym (append-assoc (down rs) (opener kind ∷ p ∷ []) (b ∷ []))),
     ))
     tt
 step-follows (pattern-tag k r rs) b h =
@@ -290,8 +283,8 @@ read-ends : (s : Stage) (at : ℕ) (c : Cascade) → Shown s → finish s at ≡
 read-ends opening at c h e = not-read 1 at c e
 read-ends size at c h e = not-read 1 at c e
 read-ends (command k rs) at c h e = not-read 1 at c e
-read-ends (place k rs) at c h e = not-read 1 at c e
-read-ends (new-tag k rs p) at c h e = not-read 1 at c e
+read-ends (place k kind rs) at c h e = not-read 1 at c e
+read-ends (new-tag k kind rs p) at c h e = not-read 1 at c e
 read-ends (pattern-tag k r rs) at c h e = not-read 1 at c e
 read-ends (ended k rs) at c h e =
     subst (Encodes (ended k rs) [])

@@ -1,4 +1,5 @@
 -- Laws of books.
+pub mod Step
 pub mod Encode
 pub mod Ending
 pub mod Refusal
@@ -6,3 +7,4 @@ pub mod Arrays
 pub mod Commands
 pub mod Resume
 pub mod Held
+pub mod Examples

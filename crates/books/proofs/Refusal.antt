@@ -9,8 +9,9 @@ use lib.Dec.{eqb, leb, ltb}
 use lib.ListN.{length, getD, length-append}
 use Rattle.limits.specs.Limits.{fewest-tags, most-tags, most-rules, longest-pattern}
 use Rattle.answers.specs.Outcome.{Outcome, result, refused, nothing, byte, rule, andThen, provided}
-use Rattle.cascades.specs.Rule.{Rule, Cascade}
+use Rattle.cascades.specs.Rule.{Kind, Rule, Cascade}
 use Rattle.books.specs.Read.{Stage, opening, size, command, place, new-tag, pattern-tag, ended, closing, nextTag, nextRule, commandStep, opened, longer, step, readFrom, read}
+use Rattle.books.proofs.Step.{by-command}
 
 -- the bytes of a rule, and of a book, at most
 abbrev rule-bytes : ℕ
@@ -51,25 +52,22 @@ small-tag : (k : ℕ) (rs : List Rule) → Small (nextTag k rs)
 small-tag k [] = (omega arith, omega arith)
 small-tag k (r ∷ rs) = small-provided 3 (ltb (length (r .pattern)) longest-pattern) (result (pattern-tag k r rs)) tt (omega arith) (omega arith)
 
+small-rule : (k : ℕ) (kind : Kind) (rs : List Rule) → Small (nextRule k kind rs)
+small-rule k kind rs =
+    small-then (closing rs) (λ u. provided 7 (ltb (length rs) most-rules) (result (place k kind rs))) (small-closing rs)
+    (λ u. small-provided 7 (ltb (length rs) most-rules) (result (place k kind rs)) tt (omega arith) (omega arith))
+
 small-command : (k : ℕ) (rs : List Rule) (b : ℕ) → Small (commandStep k rs b)
-small-command k rs b = by (eqb b 0x00) (eqb b 0x21) (eqb b 0x22)
-  where
-    by : (x y z : Bool)
-        → Small {A = Stage}
-        (elim x as (λ t. Outcome Stage) [ true ↦ andThen (closing rs) (λ u. result (ended k rs)) | false ↦ elim y as (λ t. Outcome Stage) [ true ↦ andThen (closing rs) (λ u. nextRule k rs) | false ↦ elim z as (λ t. Outcome Stage) [ true ↦ nextTag k rs | false ↦ refused 1 nothing ] ] ])
-    by true y z = small-then (closing rs) (λ u. result (ended k rs)) (small-closing rs) (λ u. tt)
-    by false true z =
-        small-then (closing rs) (λ u. nextRule k rs) (small-closing rs)
-        (λ u. small-provided 7 (ltb (length rs) most-rules) (result (place k rs)) tt (omega arith) (omega arith))
-    by false false true = small-tag k rs
-    by false false false = (omega arith, omega arith)
+small-command k rs b =
+    by-command Small k rs b (λ e. small-then (closing rs) (λ u. result (ended k rs)) (small-closing rs) (λ u. tt)) (λ kind e. small-rule k kind rs)
+    (λ e. small-tag k rs) (omega arith, omega arith)
 
 small-step : (s : Stage) (b : ℕ) → Small (step s b)
 small-step opening b = small-provided 1 (eqb b 0x20) (result size) tt (omega arith) (omega arith)
 small-step size b = small-provided 2 (leb fewest-tags b && leb b most-tags) (result (command b [])) tt (omega arith) (omega arith)
 small-step (command k rs) b = small-command k rs b
-small-step (place k rs) b = tt
-small-step (new-tag k rs p) b = small-provided 4 (ltb b k) (result (command k (opened p b ∷ rs))) tt (omega arith) (omega arith)
+small-step (place k kind rs) b = tt
+small-step (new-tag k kind rs p) b = small-provided 4 (ltb b k) (result (command k (opened kind p b ∷ rs))) tt (omega arith) (omega arith)
 small-step (pattern-tag k r rs) b = small-provided 4 (ltb b k) (result (command k (longer r b ∷ rs))) tt (omega arith) (omega arith)
 small-step (ended k rs) b = (omega arith, omega arith)
 
@@ -79,8 +77,8 @@ Reached opening at = at ≡ 0
 Reached size at = at ≡ 1
 Reached (command k []) at = at ≡ 2
 Reached (command k (r ∷ rs)) at = (length rs < most-rules) × (length (r .pattern) ≤ longest-pattern) × (at ≤ 5 + rule-bytes * length rs + 2 * length (r .pattern))
-Reached (place k rs) at = (length rs < most-rules) × (at ≤ 3 + rule-bytes * length rs)
-Reached (new-tag k rs p) at = (length rs < most-rules) × (at ≤ 4 + rule-bytes * length rs)
+Reached (place k kind rs) at = (length rs < most-rules) × (at ≤ 3 + rule-bytes * length rs)
+Reached (new-tag k kind rs p) at = (length rs < most-rules) × (at ≤ 4 + rule-bytes * length rs)
 Reached (pattern-tag k r rs) at = (length rs < most-rules) × (length (r .pattern) < longest-pattern) × (at ≤ 6 + rule-bytes * length rs + 2 * length (r .pattern))
 Reached (ended k rs) at = at ≤ longest-book
 
@@ -101,46 +99,43 @@ reached-few opening at h = omega arith
 reached-few size at h = omega arith
 reached-few (command k []) at h = omega arith
 reached-few (command k (r ∷ rs)) at h = omega (arith, h .0, h .1, h .2)
-reached-few (place k rs) at h = omega (arith, h .0, h .1)
-reached-few (new-tag k rs p) at h = omega (arith, h .0, h .1)
+reached-few (place k kind rs) at h = omega (arith, h .0, h .1)
+reached-few (new-tag k kind rs p) at h = omega (arith, h .0, h .1)
 reached-few (pattern-tag k r rs) at h = omega (arith, h .0, h .1, h .2)
 reached-few (ended k rs) at h = h
 
-reached-command : (k : ℕ) (rs : List Rule) (b at : ℕ) → Reached (command k rs) at → ReachedBy (commandStep k rs b) (suc at)
-reached-command k rs b at h = by (eqb b 0x00) (eqb b 0x21) (eqb b 0x22)
-  where
-    next-rule : (rs : List Rule) → Reached (command k rs) at → length rs < most-rules → Reached (place k rs) (suc at)
-    next-rule [] h l = (l, omega arith)
-    next-rule (r ∷ rs) h l = (l, omega (arith, h .1, h .2))
+module _ (k at : ℕ) where
+  reached-end : (rs : List Rule) → Reached (command k rs) at → suc at ≤ longest-book
+  reached-end [] h = omega arith
+  reached-end (r ∷ rs) h = omega (arith, h .0, h .1, h .2)
 
-    next-tag : (rs : List Rule) → Reached (command k rs) at → ReachedBy (nextTag k rs) (suc at)
-    next-tag [] h = tt
-    next-tag (r ∷ rs) h =
-        reached-provided 3 (ltb (length (r .pattern)) longest-pattern) (result (pattern-tag k r rs)) (suc at)
-        (λ e. (h .0, leb-true (suc (length (r .pattern))) longest-pattern e, omega (arith, h .2)))
+  reached-place : (kind : Kind) (rs : List Rule) → Reached (command k rs) at → length rs < most-rules → Reached (place k kind rs) (suc at)
+  reached-place kind [] h l = (l, omega arith)
+  reached-place kind (r ∷ rs) h l = (l, omega (arith, h .1, h .2))
 
-    by : (x y z : Bool)
-        → ReachedBy
-        (elim x as (λ t. Outcome Stage) [ true ↦ andThen (closing rs) (λ u. result (ended k rs)) | false ↦ elim y as (λ t. Outcome Stage) [ true ↦ andThen (closing rs) (λ u. nextRule k rs) | false ↦ elim z as (λ t. Outcome Stage) [ true ↦ nextTag k rs | false ↦ refused 1 nothing ] ] ])
-        (suc at)
-    by true y z = reached-then (closing rs) (λ u. result (ended k rs)) (suc at) (λ u. end rs h)
-      where
-        end : (rs : List Rule) → Reached (command k rs) at → suc at ≤ longest-book
-        end [] h = omega arith
-        end (r ∷ rs) h = omega (arith, h .0, h .1, h .2)
-    by false true z =
-        reached-then (closing rs) (λ u. nextRule k rs) (suc at)
-        (λ u. reached-provided 7 (ltb (length rs) most-rules) (result (place k rs)) (suc at) (λ e. next-rule rs h (leb-true (suc (length rs)) most-rules e)))
-    by false false true = next-tag rs h
-    by false false false = tt
+  reached-tag : (rs : List Rule) → Reached (command k rs) at → ReachedBy (nextTag k rs) (suc at)
+  reached-tag [] h = tt
+  reached-tag (r ∷ rs) h =
+      reached-provided 3 (ltb (length (r .pattern)) longest-pattern) (result (pattern-tag k r rs)) (suc at)
+      (λ e. (h .0, leb-true (suc (length (r .pattern))) longest-pattern e, omega (arith, h .2)))
+
+  reached-command : (rs : List Rule) (b : ℕ) → Reached (command k rs) at → ReachedBy (commandStep k rs b) (suc at)
+  reached-command rs b h =
+      by-command (λ o. ReachedBy o (suc at)) k rs b
+      (λ e. reached-then (closing rs) (λ u. result (ended k rs)) (suc at) (λ u. reached-end rs h))
+      (λ kind e. reached-then (closing rs) (λ u. provided 7 (ltb (length rs) most-rules) (result (place k kind rs))) (suc at)
+      (λ u. reached-provided 7 (ltb (length rs) most-rules) (result (place k kind rs)) (suc at)
+      (λ l. reached-place kind rs h (leb-true (suc (length rs)) most-rules l))))
+      (λ e. reached-tag rs h)
+      tt
 
 reached-step : (s : Stage) (b at : ℕ) → Reached s at → ReachedBy (step s b) (suc at)
 reached-step opening b at h = reached-provided 1 (eqb b 0x20) (result size) (suc at) (λ e. omega arith)
 reached-step size b at h = reached-provided 2 (leb fewest-tags b && leb b most-tags) (result (command b [])) (suc at) (λ e. omega arith)
-reached-step (command k rs) b at h = reached-command k rs b at h
-reached-step (place k rs) b at h = (h .0, omega (arith, h .1))
-reached-step (new-tag k rs p) b at h =
-    reached-provided 4 (ltb b k) (result (command k (opened p b ∷ rs))) (suc at) (λ e. (h .0, omega arith, omega (arith, h .1)))
+reached-step (command k rs) b at h = reached-command k at rs b h
+reached-step (place k kind rs) b at h = (h .0, omega (arith, h .1))
+reached-step (new-tag k kind rs p) b at h =
+    reached-provided 4 (ltb b k) (result (command k (opened kind p b ∷ rs))) (suc at) (λ e. (h .0, omega arith, omega (arith, h .1)))
 reached-step (pattern-tag k r rs) b at h =
     let n = length-append (r .pattern) (b ∷ []) in
     reached-provided 4 (ltb b k) (result (command k (longer r b ∷ rs))) (suc at) (λ e. (h .0, omega (arith, h .1, n), omega (arith, h .2, n)))
@@ -150,8 +145,8 @@ refusal-from : (s : Stage) (at : ℕ) (bs : List ℕ) → Reached s at → BookR
 refusal-from opening at [] h = (omega arith, omega arith, reached-few opening at h)
 refusal-from size at [] h = (omega arith, omega arith, reached-few size at h)
 refusal-from (command k rs) at [] h = (omega arith, omega arith, reached-few (command k rs) at h)
-refusal-from (place k rs) at [] h = (omega arith, omega arith, reached-few (place k rs) at h)
-refusal-from (new-tag k rs p) at [] h = (omega arith, omega arith, reached-few (new-tag k rs p) at h)
+refusal-from (place k kind rs) at [] h = (omega arith, omega arith, reached-few (place k kind rs) at h)
+refusal-from (new-tag k kind rs p) at [] h = (omega arith, omega arith, reached-few (new-tag k kind rs p) at h)
 refusal-from (pattern-tag k r rs) at [] h = (omega arith, omega arith, reached-few (pattern-tag k r rs) at h)
 refusal-from (ended k rs) at [] h = tt
 refusal-from s at (b ∷ bs) h = by (step s b) (small-step s b) (reached-step s b at h) (λ s' f. refusal-from s' (suc at) bs f)

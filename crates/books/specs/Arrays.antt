@@ -1,12 +1,14 @@
 -- "Reading keeps the patterns as an array of sixteen rows of six tags, with each length beside": the rules that the reader's arrays hold.
--- What else a rule has stands in a third array, its head: the place, then the new tag.
+-- What else a rule has stands in a third array, its head: the place, the new tag and the command that opened it.
 use Prim.Native.Nat.{ℕ, zero, suc, _≤_, _<_}
 use mathlib.Core.Path.{_≡_}
 use mathlib.Core.List.{List, [], _∷_, reverse}
+use lib.Dec.{eqb}
 use lib.ListN.{length, getD, take}
 use denote.Ref.{RefT}
 use Rattle.limits.specs.Limits.{most-rules, longest-pattern, no-end}
-use Rattle.cascades.specs.Rule.{Rule, ValidRule, Cascade}
+use Rattle.cascades.specs.Rule.{Kind, Rule, ValidRule, Cascade}
+use Rattle.cascades.specs.Value.{kindOf}
 
 pub record Arrays : Type 0 where
   pub rows : List (List ℕ)
@@ -27,7 +29,7 @@ pub record Shaped (a : Arrays) : Type 0 where
   pub lengths-long : length (a .lengths) ≡ most-rules
   pub length-short : (i : ℕ) → getD (a .lengths) i 0 ≤ longest-pattern
   pub heads-long : length (a .heads) ≡ most-rules
-  pub head-long : (i : ℕ) → i < most-rules → length (getD (a .heads) i []) ≡ 2
+  pub head-long : (i : ℕ) → i < most-rules → length (getD (a .heads) i []) ≡ 3
 
 abbrev pub placeAt : Arrays → ℕ → ℕ
 placeAt a i = getD (getD (a .heads) i []) 0 0
@@ -35,8 +37,11 @@ placeAt a i = getD (getD (a .heads) i []) 0 0
 abbrev pub tagAt : Arrays → ℕ → ℕ
 tagAt a i = getD (getD (a .heads) i []) 1 0
 
+abbrev pub kindAt : Arrays → ℕ → Kind
+kindAt a i = kindOf (eqb (getD (getD (a .heads) i []) 2 0) 0x24)
+
 abbrev pub ruleAt : Arrays → ℕ → Rule
-ruleAt a i = record { pattern = take (getD (a .lengths) i 0) (getD (a .rows) i []); place = placeAt a i; tag = tagAt a i }
+ruleAt a i = record { kind = kindAt a i; pattern = take (getD (a .lengths) i 0) (getD (a .rows) i []); place = placeAt a i; tag = tagAt a i }
 
 -- the first n rules, last first
 abbrev pub rulesDown : Arrays → ℕ → List Rule

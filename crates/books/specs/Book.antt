@@ -1,10 +1,10 @@
--- Valid books, and their bytes (document 01, "Bytes of a book").
+-- Valid books, and their bytes (document 01, "Bytes of a book"; document 02, W4).
 use Prim.Native.Nat.{ℕ, _≤_}
 use mathlib.Core.Path.{_≡_}
 use mathlib.Core.List.{List, [], _∷_, _++_}
 use lib.ListN.{length}
 use Rattle.limits.specs.Limits.{fewest-tags, most-tags, most-rules, longest-pattern, no-end}
-use Rattle.cascades.specs.Rule.{Rule, Cascade, ValidCascade}
+use Rattle.cascades.specs.Rule.{Kind, once, everywhere, Rule, Cascade, ValidCascade}
 
 -- "K 2 to 48; at most 16 rules", each with "a pattern u of 1 to 6 tags"
 pub record Valid (b : Cascade) : Type 0 where
@@ -20,9 +20,14 @@ abbrev pub encodePattern : List ℕ → List ℕ
 encodePattern [] = []
 encodePattern (a ∷ u) = 0x22 ∷ a ∷ encodePattern u
 
+-- "Command 24 opens a rule as 21 does, with the same operands, but marks it everywhere"
+abbrev pub opener : Kind → ℕ
+opener once = 0x21
+opener everywhere = 0x24
+
 -- "21, then p and the new tag (1 byte each). Opens a rule and closes the one before"
 abbrev pub encodeRule : Rule → List ℕ
-encodeRule r = 0x21 ∷ r .place ∷ r .tag ∷ encodePattern (r .pattern)
+encodeRule r = opener (r .kind) ∷ r .place ∷ r .tag ∷ encodePattern (r .pattern)
 
 abbrev pub encodeRules : List Rule → List ℕ
 encodeRules [] = []

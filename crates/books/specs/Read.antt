@@ -7,15 +7,15 @@ use lib.Dec.{eqb, leb, ltb}
 use lib.ListN.{length, getD}
 use Rattle.limits.specs.Limits.{fewest-tags, most-tags, most-rules, longest-pattern, no-end}
 use Rattle.answers.specs.Outcome.{Outcome, result, refused, nothing, byte, andThen, provided}
-use Rattle.cascades.specs.Rule.{Rule, Cascade}
+use Rattle.cascades.specs.Rule.{Kind, once, everywhere, Rule, Cascade}
 
 -- what the next byte is. Rules are kept last first: the first one here is open
 pub data Stage : Type 0 where
   opening : Stage
   size : Stage
   command : ℕ → List Rule → Stage
-  place : ℕ → List Rule → Stage
-  new-tag : ℕ → List Rule → ℕ → Stage
+  place : ℕ → Kind → List Rule → Stage
+  new-tag : ℕ → Kind → List Rule → ℕ → Stage
   pattern-tag : ℕ → Rule → List Rule → Stage
   ended : ℕ → List Rule → Stage
 
@@ -34,9 +34,9 @@ abbrev pub nextTag : ℕ → List Rule → Outcome Stage
 nextTag k [] = refused 1 nothing
 nextTag k (r ∷ rs) = provided 3 (ltb (length (r .pattern)) longest-pattern) (result (pattern-tag k r rs))
 
--- 21: "all before 7", a seventeenth 21
-abbrev pub nextRule : ℕ → List Rule → Outcome Stage
-nextRule k rs = provided 7 (ltb (length rs) most-rules) (result (place k rs))
+-- 21 and 24: "24 closes a rule as 21 does", "all before 7"; "A seventeenth rule is refused whichever command opens it"
+abbrev pub nextRule : ℕ → Kind → List Rule → Outcome Stage
+nextRule k kind rs = andThen (closing rs) (λ x. provided 7 (ltb (length rs) most-rules) (result (place k kind rs)))
 
 -- "command unknown or out of place" is 1
 abbrev pub commandStep : ℕ → List Rule → ℕ → Outcome Stage
@@ -45,8 +45,12 @@ commandStep k rs b =
       | true ↦ andThen (closing rs) (λ x. result (ended k rs))
       | false ↦
           elim (eqb b 0x21) [
-            | true ↦ andThen (closing rs) (λ x. nextRule k rs)
-            | false ↦ elim (eqb b 0x22) [ true ↦ nextTag k rs | false ↦ refused 1 nothing ]
+            | true ↦ nextRule k once rs
+            | false ↦
+                elim (eqb b 0x24) [
+                  | true ↦ nextRule k everywhere rs
+                  | false ↦ elim (eqb b 0x22) [ true ↦ nextTag k rs | false ↦ refused 1 nothing ]
+                ]
           ]
     ]
 
@@ -54,19 +58,19 @@ commandStep k rs b =
 abbrev pub below : ℕ → ℕ → Stage → Outcome Stage
 below k b next = provided 4 (ltb b k) (result next)
 
-abbrev pub opened : ℕ → ℕ → Rule
-opened p t = record { pattern = []; place = p; tag = t }
+abbrev pub opened : Kind → ℕ → ℕ → Rule
+opened kind p t = record { kind = kind; pattern = []; place = p; tag = t }
 
 abbrev pub longer : Rule → ℕ → Rule
-longer r a = record { pattern = r .pattern ++ (a ∷ []); place = r .place; tag = r .tag }
+longer r a = record { kind = r .kind; pattern = r .pattern ++ (a ∷ []); place = r .place; tag = r .tag }
 
 -- the stage after a byte, or the number of the refusal: K outside 2 to 48 is 2; a byte after 00 is 1
 abbrev pub step : Stage → ℕ → Outcome Stage
 step opening b = provided 1 (eqb b 0x20) (result size)
 step size b = provided 2 (leb fewest-tags b && leb b most-tags) (result (command b []))
 step (command k rs) b = commandStep k rs b
-step (place k rs) b = result (new-tag k rs b)
-step (new-tag k rs p) b = below k b (command k (opened p b ∷ rs))
+step (place k kind rs) b = result (new-tag k kind rs b)
+step (new-tag k kind rs p) b = below k b (command k (opened kind p b ∷ rs))
 step (pattern-tag k r rs) b = below k b (command k (longer r b ∷ rs))
 step (ended k rs) b = refused 1 nothing
 
@@ -75,8 +79,8 @@ abbrev pub finish : Stage → ℕ → Outcome Cascade
 finish opening at = refused 1 (byte at)
 finish size at = refused 1 (byte at)
 finish (command k rs) at = refused 1 (byte at)
-finish (place k rs) at = refused 1 (byte at)
-finish (new-tag k rs p) at = refused 1 (byte at)
+finish (place k kind rs) at = refused 1 (byte at)
+finish (new-tag k kind rs p) at = refused 1 (byte at)
 finish (pattern-tag k r rs) at = refused 1 (byte at)
 finish (ended k rs) at = result (record { tags = k; rules = reverse rs; end = no-end })
 

@@ -9,18 +9,27 @@ ghost use Prim.Native.Nat.{_+_, _≤_, _<_};
 ghost use lib.ListN.{length, getD};
 ghost use Rattle.answers.specs.declared.Refusal.the-variants.{AtByte};
 ghost use Rattle.limits.specs.Limits.{most-rules};
+ghost use Rattle.cascades.specs.Rule.{Kind};
 ghost use Rattle.cascades.specs.Value.{ruleOf, Formed};
+ghost use Rattle.books.specs.Book.{opener};
 ghost use Rattle.books.specs.Read.{read, closing};
 ghost use Rattle.books.specs.Arrays.{Arrays, arrays, Shaped, rulesDown, ruleAt};
 ghost use Rattle.books.specs.Answer.{sizes, bookOutcome};
 ghost use Rattle.books.specs.Resume.{Resumes, Reads, Whole, readCommands, cascadeOutcome, faulted};
 
-// What a rule's head holds: its place and its new tag.
-pub const HEAD: usize = 2;
+// What a rule's head holds: its place, its new tag and the command that opened it.
+pub const HEAD: usize = 3;
 
 const PLACE: usize = 0;
 
 const TAG: usize = 1;
+
+const COMMAND: usize = 2;
+
+// The commands that open a rule.
+const ONCE: u8 = 0x21;
+
+const EVERYWHERE: u8 = 0x24;
 
 pub enum BookAnswer {
     Book { tags: u8, rules: usize },
@@ -111,7 +120,7 @@ fn end_book(
     BookAnswer::Book { tags: k, rules: m }
 }
 
-// 21 at `at`: closes the last rule and opens another.
+// 21 or 24 at `at`: closes the last rule and opens another, of the command's kind.
 fn open_rule(
     s: &[u8],
     at: usize,
@@ -122,7 +131,7 @@ fn open_rule(
     heads: &mut [[u8; HEAD]; RULES],
 ) -> BookAnswer
     requires { ⌜ Shaped (arrays rows lengths heads) ⌝ }
-    requires { ⌜ (m ≤ most-rules) × (at < length (now s)) × (getD (now s) at 0 ≡ 0x21) ⌝ }
+    requires { ⌜ (m ≤ most-rules) × (at < length (now s)) × ((kind : Kind) × (getD (now s) at 0 ≡ opener kind)) ⌝ }
     ensures { λ r. ⌜ Resumes (now (s .entry)) (readCommands (now (s .entry)) k m (arrays (rows .entry) (lengths .entry) (heads .entry)) at) (at + 1 + 1 + 1) (arrays (rows .entry) (lengths .exit) (heads .exit)) r ⌝ }
 {
     let fault = closing_fault(rows, lengths, heads, m);
@@ -145,7 +154,7 @@ fn open_rule(
         return refused(4, second);
     }
     lengths[m] = 0;
-    heads[m] = [s[first], tag];
+    heads[m] = [s[first], tag, s[at]];
     BookAnswer::Book {
         tags: k,
         rules: m + 1,
@@ -201,7 +210,8 @@ fn read_rule(
     requires { ⌜ (m ≤ most-rules) × (at < length (now s)) × (getD (now s) at 0 ≡ 0 → ⊥) × (getD (now s) at 0 ≡ 0x22 → ⊥) ⌝ }
     ensures { λ r. ⌜ Resumes (now (s .entry)) (readCommands (now (s .entry)) k m (arrays (rows .entry) (lengths .entry) (heads .entry)) at) (at + 1 + 1 + 1) (arrays (rows .entry) (lengths .exit) (heads .exit)) r ⌝ }
 {
-    if s[at] == 0x21 {
+    let command = s[at];
+    if command == ONCE || command == EVERYWHERE {
         return open_rule(s, at, k, m, rows, lengths, heads);
     }
     refused(1, at)
@@ -279,6 +289,7 @@ pub fn rule_at(
 {
     let row = rows[i];
     Rule {
+        everywhere: heads[i][COMMAND] == EVERYWHERE,
         row,
         length: lengths[i],
         place: wide(heads[i][PLACE]),

@@ -1,33 +1,47 @@
 -- Rules leave the end tag where it is, unless they change or make it.
 use Prim.Native.Nat.{ℕ, zero, suc, _+_, _≤_, _<_}
 use native.Mathlib.Omega.{arith}
-use mathlib.Core.Path.{_≡_, refl, subst, sym, _∙_}
+use mathlib.Core.Path.{_≡_, refl, subst, sym, ap, _∙_}
 use mathlib.Core.Bool.{Bool, true, false, _||_, false≢true}
 use mathlib.Core.List.{List, [], _∷_, _++_}
 use borrow.Author.Tests.{eq-eqb, ne-eqb}
 use lib.Dec.{eqb}
-use lib.ListN.{length, drop, getD}
+use lib.ListN.{length, take, drop, set, getD, take-append-drop}
+use lib.Seq.{take-at}
 use Rattle.words.specs.Word.{Below, prefix}
 use Rattle.words.proofs.Word.{prefix-split, below-at}
 use Rattle.words.proofs.Pieces.{without-below, piecewise-without, Marks, marks-same, marks-append, marks-set, Keeps, keeps-marks}
-use Rattle.cascades.specs.Rule.{Rule, replaced, ValidRule, ValidRules, Cascade}
-use Rattle.cascades.specs.Rewrite.{rewrite, apply, applyAll, behavior}
+use Rattle.cascades.specs.Rule.{Kind, once, everywhere, Rule, ValidRule, ValidRules, Cascade}
+use Rattle.cascades.specs.Rewrite.{behind, rewrite, apply, applyAll, behavior}
 use Rattle.cascades.specs.Ending.{before, misused}
 use Rattle.cascades.specs.Spares.{Spares, Spare}
 
-marks-rewrite : (e : ℕ) (u v : List ℕ) → Marks e u v → (w : List ℕ) → Marks e w (rewrite u v w)
-marks-rewrite e u v m [] = tt
-marks-rewrite e u v m (a ∷ w) = by (prefix u (a ∷ w)) refl (marks-rewrite e u v m w)
+marks-rewrite : (e : ℕ) (r : Rule) → Spares e r → (n : ℕ) (w : List ℕ) → Marks e w (rewrite n r w)
+marks-rewrite e r s zero w = marks-same e w
+marks-rewrite e r s (suc n) [] = tt
+marks-rewrite e r s (suc n) (a ∷ w) = by (prefix u (a ∷ w)) refl (marks-rewrite e r s n w) (rest (r .kind) (marks-rewrite e r s n x))
   where
-    by : (t : Bool) → prefix u (a ∷ w) ≡ t → Marks e w (rewrite u v w)
-        → Marks e (a ∷ w) (elim t as (λ x. List ℕ) [ true ↦ v ++ drop (length u) (a ∷ w) | false ↦ a ∷ rewrite u v w ])
-    by true h g =
-        subst (λ (x : List ℕ). Marks e x (v ++ drop (length u) (a ∷ w))) (sym (prefix-split u (a ∷ w) h))
-        (marks-append e u v (drop (length u) (a ∷ w)) (drop (length u) (a ∷ w)) m (marks-same e (drop (length u) (a ∷ w))))
-    by false h g = ((λ f. f, λ f. f), g)
+    u : List ℕ
+    u = r .pattern
+
+    x : List ℕ
+    x = drop (length (r .pattern)) (a ∷ w)
+
+    rest : (k : Kind) → Marks e x (rewrite n r x) → Marks e x (behind k (rewrite n r) x)
+    rest once m = marks-same e x
+    rest everywhere m = m
+
+    by : (t : Bool) → prefix (r .pattern) (a ∷ w) ≡ t → Marks e w (rewrite n r w) → Marks e x (behind (r .kind) (rewrite n r) x)
+        → Marks e (a ∷ w) (elim t as (λ z. List ℕ) [ true ↦ set (take (length (r .pattern)) (a ∷ w)) (r .place) (r .tag) ++ behind (r .kind) (rewrite n r) (drop (length (r .pattern)) (a ∷ w)) | false ↦ a ∷ rewrite n r w ])
+    by true h g m =
+        let front : take (length (r .pattern)) (a ∷ w) ≡ r .pattern = ap (take (length (r .pattern))) (prefix-split (r .pattern) (a ∷ w) h) ∙ take-at (r .pattern) x (length (r .pattern)) refl in
+        subst (λ (y : List ℕ). Marks e y (set (take (length (r .pattern)) (a ∷ w)) (r .place) (r .tag) ++ behind (r .kind) (rewrite n r) x)) (take-append-drop (length (r .pattern)) (a ∷ w))
+        (marks-append e (take (length (r .pattern)) (a ∷ w)) (set (take (length (r .pattern)) (a ∷ w)) (r .place) (r .tag)) x (behind (r .kind) (rewrite n r) x)
+        (marks-set e (r .place) (r .tag) (take (length (r .pattern)) (a ∷ w)) (subst (λ (y : List ℕ). getD y (r .place) 0 ≡ e → ⊥) (sym front) (s .old)) (s .new)) m)
+    by false h g m = ((λ f. f, λ f. f), g)
 
 pub keeps-apply : (e : ℕ) (r : Rule) → Spares e r → Keeps e (apply r)
-keeps-apply e r s = keeps-marks e (apply r) (marks-rewrite e (r .pattern) (replaced r) (marks-set e (r .place) (r .tag) (r .pattern) (s .old) (s .new)))
+keeps-apply e r s = keeps-marks e (apply r) (λ w. marks-rewrite e r s (length w) w)
 
 -- where the end tag is no tag the rules meet the whole sentence: document 01's cascades
 pub without-end : (c : Cascade) → c .tags ≤ c .end → (w : List ℕ) → Below (c .tags) w → behavior c w ≡ applyAll (c .rules) w

@@ -1,21 +1,23 @@
--- `rewrite` place by place, for a search that goes through a sentence from the front; and cascades one rule at a time.
-use Prim.Native.Nat.{ℕ, suc, _+_, _≤_, _<_}
+-- What a rule makes of a word, by equations that do not count the tags, and place by place, for a search that goes through a sentence from
+-- the front; and cascades one rule at a time.
+use Prim.Native.Nat.{ℕ, zero, suc, _+_, _≤_, _<_}
 use native.Mathlib.Omega.{arith}
 use native.Mathlib.Numerals.{add-one}
-use mathlib.Core.Path.{_≡_, refl, sym, ap, _∙_, subst}
+use mathlib.Core.Path.{_≡_, refl, sym, ap, ap₂, _∙_, subst}
 use mathlib.Core.Bool.{Bool, true, false}
 use mathlib.Core.List.{List, [], _∷_, _++_, append-assoc}
 use lib.Dec.{eqb}
-use lib.ListN.{length, drop, take, getD, set, length-drop, length-set, length-append, take-append-drop}
-use lib.Seq.{drop-cons, drop-length, take-suc, length-take-le, set-append-left}
+use lib.ListN.{length, drop, take, getD, set, length-drop, length-take, length-set, length-append, take-append-drop}
+use lib.Seq.{drop-cons, drop-length, drop-append-seam, drop-at, take-at, take-suc, length-take-le, set-append-left}
 use Rattle.words.specs.Word.{prefix}
-use Rattle.words.proofs.Word.{prefix-split, prefix-next, prefix-stops}
-use Rattle.cascades.specs.Rule.{Rule, replaced}
-use Rattle.cascades.specs.Rewrite.{rewrite, apply, applyAll}
+use Rattle.words.specs.Parts.{Begun}
+use Rattle.words.proofs.Word.{prefix-split, prefix-append, prefix-length, prefix-next, prefix-stops}
+use Rattle.cascades.specs.Rule.{Kind, once, everywhere, Rule, replaced}
+use Rattle.cascades.specs.Rewrite.{behind, rewrite, apply, applyAll}
 
 -- ---- the test at a place
 
-prefix-short : (u w : List ℕ) → length w < length u → prefix u w ≡ false
+pub prefix-short : (u w : List ℕ) → length w < length u → prefix u w ≡ false
 prefix-short [] w h = absurd (omega arith)
 prefix-short (a ∷ u) [] h = refl
 prefix-short (a ∷ u) (b ∷ w) h = test (eqb a b) (prefix-short u w (omega arith))
@@ -43,36 +45,73 @@ first-other u s i h k e =
     let n : 0 + i ≡ i = omega arith in
     subst (λ (m : ℕ). prefix u (drop m s) ≡ false) n (other-next u s i 0 h (omega arith) (λ q. e (subst (λ (m : ℕ). getD s m 0 ≡ getD u 0 0) n q)))
 
--- a word shorter than u is unchanged
-pub rewrite-short : (u v w : List ℕ) → length w < length u → rewrite u v w ≡ w
-rewrite-short u v [] h = refl
-rewrite-short u v (a ∷ w) h =
-    let p : prefix u (a ∷ w) ≡ false = prefix-short u (a ∷ w) h in
-    let r : rewrite u v w ≡ w = rewrite-short u v w (omega arith) in
-    cc
+-- ---- the equations
 
--- ---- the search
+-- only what f makes of w counts
+behind-same : (k : Kind) (f g : List ℕ → List ℕ) (w : List ℕ) → f w ≡ g w → behind k f w ≡ behind k g w
+behind-same once f g w e = refl
+behind-same everywhere f g w e = e
 
--- a rewriting of s begins at i or after it
-abbrev pub From : List ℕ → List ℕ → List ℕ → ℕ → Type 0
-From u v s i = rewrite u v s ≡ take i s ++ rewrite u v (drop i s)
+rewrite-nothing : (n : ℕ) (r : Rule) → rewrite n r [] ≡ []
+rewrite-nothing zero r = refl
+rewrite-nothing (suc n) r = refl
 
-module _ (u v s : List ℕ) (i : ℕ) (f : From u v s i) where
-  pub search-next : i < length s → prefix u (drop i s) ≡ false → From u v s (i + 1)
-  search-next h e =
-      let p : prefix u (getD s i 0 ∷ drop (suc i) s) ≡ false = subst (λ (x : List ℕ). prefix u x ≡ false) (drop-cons s i 0 h) e in
-      let g : rewrite u v (getD s i 0 ∷ drop (suc i) s) ≡ getD s i 0 ∷ rewrite u v (drop (suc i) s) = cc in
-      cc (
-        f,
-        drop-cons s i 0 h,
-        g,
-        take-suc s i 0 h,
-        add-one i,
-        append-assoc (take i s) (getD s i 0 ∷ []) (rewrite u v (drop (suc i) s)),
-      )
+module _ (r : Rule) where
+  abbrev u : List ℕ
+  u = r .pattern
 
-  pub search-none : i ≤ length s → length s < i + length u → rewrite u v s ≡ s
-  search-none b h = f ∙ ap (λ (x : List ℕ). take i s ++ x) (rewrite-short u v (drop i s) (omega (arith, length-drop i s))) ∙ take-append-drop i s
+  -- where u does not begin at the front: the first tag, and again behind it
+  pub apply-other : (a : ℕ) (w : List ℕ) → prefix u (a ∷ w) ≡ false → apply r (a ∷ w) ≡ a ∷ apply r w
+  apply-other a w e = cc
+
+  -- a word shorter than u is unchanged
+  pub apply-short : (w : List ℕ) → length w < length u → apply r w ≡ w
+  apply-short [] h = refl
+  apply-short (a ∷ w) h = apply-other a w (prefix-short u (a ∷ w) h) ∙ ap (λ (x : List ℕ). a ∷ x) (apply-short w (omega arith))
+
+  module _ (some : 0 < length u) where
+    -- the number does not count, if it is no less than the length
+    enough : (n m : ℕ) (w : List ℕ) → length w ≤ n → length w ≤ m → rewrite n r w ≡ rewrite m r w
+    enough zero m [] h g = sym (rewrite-nothing m r)
+    enough zero m (a ∷ w) h g = absurd (omega arith)
+    enough (suc n) m w h g = step m w h g (λ i x. enough n i x)
+      where
+        by : (i a : ℕ) (w : List ℕ) (t : Bool) → rewrite n r w ≡ rewrite i r w → rewrite n r (drop (length u) (a ∷ w)) ≡ rewrite i r (drop (length u) (a ∷ w))
+            → _≡_ {A = List ℕ}
+            (elim t [ true ↦ set (take (length u) (a ∷ w)) (r .place) (r .tag) ++ behind (r .kind) (rewrite n r) (drop (length u) (a ∷ w)) | false ↦ a ∷ rewrite n r w ])
+            (elim t [ true ↦ set (take (length u) (a ∷ w)) (r .place) (r .tag) ++ behind (r .kind) (rewrite i r) (drop (length u) (a ∷ w)) | false ↦ a ∷ rewrite i r w ])
+        by i a w true e f =
+            ap (λ (x : List ℕ). set (take (length u) (a ∷ w)) (r .place) (r .tag) ++ x) (behind-same (r .kind) (rewrite n r) (rewrite i r) (drop (length u) (a ∷ w)) f)
+        by i a w false e f = ap (λ (x : List ℕ). a ∷ x) e
+
+        step : (m : ℕ) (w : List ℕ) → length w ≤ suc n → length w ≤ m → ((i : ℕ) (x : List ℕ) → length x ≤ n → length x ≤ i → rewrite n r x ≡ rewrite i r x)
+            → rewrite (suc n) r w ≡ rewrite m r w
+        step m [] h g rest = sym (rewrite-nothing m r)
+        step zero (a ∷ w) h g rest = absurd (omega arith)
+        step (suc i) (a ∷ w) h g rest =
+            let x = drop (length u) (a ∷ w) in
+            let l = length-drop (length u) (a ∷ w) in
+            by i a w (prefix u (a ∷ w)) (rest i w (omega arith) (omega arith)) (rest i x (omega arith) (omega arith))
+
+    -- where it does: the match with the new tag, and then the rest as it is, or again behind the match
+    pub apply-match : (w : List ℕ) → prefix u w ≡ true
+        → apply r w ≡ set (take (length u) w) (r .place) (r .tag) ++ behind (r .kind) (apply r) (drop (length u) w)
+    apply-match [] e = absurd (omega (arith, prefix-length u [] e))
+    apply-match (a ∷ w) e =
+        let x = drop (length u) (a ∷ w) in
+        let n = length-drop (length u) (a ∷ w) in
+        let fires : apply r (a ∷ w) ≡ set (take (length u) (a ∷ w)) (r .place) (r .tag) ++ behind (r .kind) (rewrite (length w) r) x = cc in
+        fires
+        ∙ ap (λ (y : List ℕ). set (take (length u) (a ∷ w)) (r .place) (r .tag) ++ y)
+        (behind-same (r .kind) (rewrite (length w) r) (apply r) x (enough (length w) (length x) x (omega arith) (omega arith)))
+
+    -- the same of u with more behind it
+    pub apply-front : (y : List ℕ) → apply r (u ++ y) ≡ replaced r ++ behind (r .kind) (apply r) y
+    apply-front y =
+        apply-match (u ++ y) (prefix-append u y)
+        ∙ ap₂ (λ (x z : List ℕ). set x (r .place) (r .tag) ++ behind (r .kind) (apply r) z) (take-at u y (length u) refl) (drop-append-seam u y)
+
+-- ---- a word that is rewritten where it stands, from the front
 
 -- a tag written in the middle part
 set-middle : (x u y : List ℕ) (p t : ℕ) → p < length u → set (x ++ (u ++ y)) (length x + p) t ≡ x ++ (set u p t ++ y)
@@ -81,20 +120,58 @@ set-middle (a ∷ x) u y p t h =
     let e : suc (length x) + p ≡ suc (length x + p) = omega arith in
     rw e (ap (λ (r : List ℕ). a ∷ r) (set-middle x u y p t h))
 
-pub search-found : (u s : List ℕ) (p t i : ℕ) → From u (set u p t) s i → p < length u → i < length s → prefix u (drop i s) ≡ true
-    → rewrite u (set u p t) s ≡ set s (i + p) t
-search-found u s p t i f hp hi e =
-    let v = set u p t in
-    let y = drop (length u) (drop i s) in
-    let b : drop i s ≡ u ++ y = prefix-split u (drop i s) e in
-    let w : s ≡ take i s ++ (u ++ y) = sym (take-append-drop i s) ∙ ap (λ (x : List ℕ). take i s ++ x) b in
-    let q : prefix u (getD s i 0 ∷ drop (suc i) s) ≡ true = subst (λ (x : List ℕ). prefix u x ≡ true) (drop-cons s i 0 hi) e in
-    let r : rewrite u v (drop i s) ≡ v ++ y = cc (drop-cons s i 0 hi, q) in
-    let l : length (take i s) ≡ i = length-take-le i s (omega arith) in
-    let m : set (take i s ++ (u ++ y)) (i + p) t ≡ take i s ++ (v ++ y) =
-    subst (λ (n : ℕ). set (take i s ++ (u ++ y)) (n + p) t ≡ take i s ++ (v ++ y)) l (set-middle (take i s) u y p t hp)
-    in
-    f ∙ ap (λ (x : List ℕ). take i s ++ x) r ∙ sym m ∙ ap (λ (x : List ℕ). set x (i + p) t) (sym w)
+module _ (r : Rule) (s₀ s : List ℕ) (i : ℕ) (b : Begun (apply r) (apply r) s₀ s i) where
+  -- the pattern does not begin at i
+  pub begun-other : i < length s → prefix (r .pattern) (drop i s) ≡ false → Begun (apply r) (apply r) s₀ s (i + 1)
+  begun-other h e =
+      let p : prefix (r .pattern) (getD s i 0 ∷ drop (suc i) s) ≡ false = subst (λ (x : List ℕ). prefix (r .pattern) x ≡ false) (drop-cons s i 0 h) e in
+      record {
+        inside = omega arith;
+        long = b .long;
+        cut =
+            cc (
+              b .cut,
+              drop-cons s i 0 h,
+              apply-other r (getD s i 0) (drop (suc i) s) p,
+              take-suc s i 0 h,
+              add-one i,
+              append-assoc (take i s) (getD s i 0 ∷ []) (apply r (drop (suc i) s)),
+            );
+      }
+
+  -- it has no room from i on
+  pub begun-short : length s < i + length (r .pattern) → s ≡ apply r s₀
+  begun-short h =
+      sym (b .cut ∙ ap (λ (x : List ℕ). take i s ++ x) (apply-short r (drop i s) (omega (arith, length-drop i s, b .inside))) ∙ take-append-drop i s)
+
+  -- it begins at i, and the new tag is put there
+  pub begun-match : r .place < length (r .pattern) → prefix (r .pattern) (drop i s) ≡ true
+      → Begun (apply r) (behind (r .kind) (apply r)) s₀ (set s (i + r .place) (r .tag)) (i + length (r .pattern))
+  begun-match hp e =
+      let u = r .pattern in
+      let y = drop (length u) (drop i s) in
+      let z = set s (i + r .place) (r .tag) in
+      let is : drop i s ≡ u ++ y = prefix-split u (drop i s) e in
+      let whole : s ≡ take i s ++ (u ++ y) = sym (take-append-drop i s) ∙ ap (λ (x : List ℕ). take i s ++ x) is in
+      let l : length (take i s) ≡ i = length-take-le i s (b .inside) in
+      let size : length z ≡ length s = length-set s (i + r .place) (r .tag) in
+      let room : i + length u ≤ length s = omega (arith, prefix-length u (drop i s) e, length-drop i s, b .inside, hp) in
+      let written : z ≡ (take i s ++ replaced r) ++ y =
+      ap₂ (λ (x : List ℕ) (n : ℕ). set x (n + r .place) (r .tag)) whole (sym l) ∙ set-middle (take i s) u y (r .place) (r .tag) hp
+      ∙ sym (append-assoc (take i s) (replaced r) y)
+      in
+      let n : length (take i s ++ replaced r) ≡ i + length u = omega (arith, length-append (take i s) (replaced r), l, length-set u (r .place) (r .tag)) in
+      record {
+        inside = omega arith;
+        long = size ∙ b .long;
+        cut =
+            b .cut ∙ ap (λ (x : List ℕ). take i s ++ apply r x) is
+            ∙ ap (λ (x : List ℕ). take i s ++ x) (apply-front r (omega arith) y)
+            ∙ sym (append-assoc (take i s) (replaced r) (behind (r .kind) (apply r) y))
+            ∙ sym (ap₂ (λ (v w : List ℕ). v ++ behind (r .kind) (apply r) w)
+            (ap (take (i + length u)) written ∙ take-at (take i s ++ replaced r) y (i + length u) n)
+            (ap (drop (i + length u)) written ∙ drop-at (take i s ++ replaced r) y (i + length u) n));
+      }
 
 -- ---- cascades
 
@@ -102,22 +179,35 @@ pub applyAll-append : (rs more : List Rule) (w : List ℕ) → applyAll (rs ++ m
 applyAll-append [] more w = refl
 applyAll-append (r ∷ rs) more w = applyAll-append rs more (apply r w)
 
-rewrite-long : (u v w : List ℕ) → length v ≡ length u → length (rewrite u v w) ≡ length w
-rewrite-long u v [] e = refl
-rewrite-long u v (a ∷ w) e = test (prefix u (a ∷ w)) refl (rewrite-long u v w e)
+rewrite-long : (n : ℕ) (r : Rule) (w : List ℕ) → length (rewrite n r w) ≡ length w
+rewrite-long zero r w = refl
+rewrite-long (suc n) r [] = refl
+rewrite-long (suc n) r (a ∷ w) = test (prefix (r .pattern) (a ∷ w)) (rewrite-long n r w) (rest (r .kind) (rewrite-long n r (drop (length (r .pattern)) (a ∷ w))))
   where
-    test : (t : Bool) → prefix u (a ∷ w) ≡ t → length (rewrite u v w) ≡ length w → length {A = ℕ} (elim t [ true ↦ v ++ drop (length u) (a ∷ w) | false ↦ a ∷ rewrite u v w ]) ≡ suc (length w)
-    test true p h =
+    x : List ℕ
+    x = drop (length (r .pattern)) (a ∷ w)
+
+    rest : (k : Kind) → length (rewrite n r x) ≡ length x → length (behind k (rewrite n r) x) ≡ length x
+    rest once e = refl
+    rest everywhere e = e
+
+    test : (t : Bool) → length (rewrite n r w) ≡ length w → length (behind (r .kind) (rewrite n r) x) ≡ length x
+        → length {A = ℕ} (elim t [ true ↦ set (take (length (r .pattern)) (a ∷ w)) (r .place) (r .tag) ++ behind (r .kind) (rewrite n r) x | false ↦ a ∷ rewrite n r w ]) ≡ suc (length w)
+    test true h e =
         omega (
           arith,
-          length-append v (drop (length u) (a ∷ w)),
-          ap length (prefix-split u (a ∷ w) p),
-          length-append u (drop (length u) (a ∷ w)),
+          length-append (set (take (length (r .pattern)) (a ∷ w)) (r .place) (r .tag)) (behind (r .kind) (rewrite n r) x),
+          length-set (take (length (r .pattern)) (a ∷ w)) (r .place) (r .tag),
+          length-take (length (r .pattern)) (a ∷ w),
+          e,
+          length-drop (length (r .pattern)) (a ∷ w),
         )
-    test false p h = ap suc h
+    test false h e = ap suc h
 
 -- a rule keeps the number of tags, and so does a cascade
+pub apply-long : (r : Rule) (w : List ℕ) → length (apply r w) ≡ length w
+apply-long r w = rewrite-long (length w) r w
+
 pub applyAll-long : (rs : List Rule) (w : List ℕ) → length (applyAll rs w) ≡ length w
 applyAll-long [] w = refl
-applyAll-long (r ∷ rs) w =
-    applyAll-long rs (apply r w) ∙ rewrite-long (r .pattern) (replaced r) w (length-set (r .pattern) (r .place) (r .tag))
+applyAll-long (r ∷ rs) w = applyAll-long rs (apply r w) ∙ apply-long r w

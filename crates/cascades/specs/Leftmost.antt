@@ -23,3 +23,10 @@ pub record Leftmost (u v w w' : List ℕ) : Type 0 where
 -- "it applies the relation on the words in which u occurs and the identity on the others"
 abbrev pub Behavior : List ℕ → List ℕ → List ℕ → List ℕ → Type 0
 Behavior u v w w' = Leftmost u v w w' ⊎ ((w' ≡ w) × (Occurs u w → ⊥))
+
+-- document 02, W4: "after a match, matching begins again behind the match's last tag, and no tag of the old match counts for the next"; "such
+-- a rule rewrites all these matches"
+pub data Everywhere (u v : List ℕ) : List ℕ → List ℕ → Type 0 where
+  nowhere : (w : List ℕ) → (Occurs u w → ⊥) → Everywhere u v w w
+  match : (x y y' : List ℕ) → ((z : List ℕ) → OccursAt u (x ++ (u ++ y)) z → Prefix x z) → Everywhere u v y y'
+      → Everywhere u v (x ++ (u ++ y)) (x ++ (v ++ y'))

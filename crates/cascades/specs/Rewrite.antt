@@ -1,20 +1,33 @@
 -- What a rule and a cascade make of a sentence.
-use Prim.Native.Nat.{ℕ}
+use Prim.Native.Nat.{ℕ, zero, suc}
 use mathlib.Core.Bool.{true, false}
 use mathlib.Core.List.{List, [], _∷_, _++_}
-use lib.ListN.{length, drop}
+use lib.ListN.{length, take, drop, set}
 use Rattle.words.specs.Word.{prefix}
 use Rattle.words.specs.Pieces.{piecewise}
-use Rattle.cascades.specs.Rule.{Rule, replaced, Cascade}
+use Rattle.cascades.specs.Rule.{Kind, once, everywhere, Rule, Cascade}
 
--- "If u occurs in a sentence, its leftmost occurrence becomes v, once; otherwise the sentence is unchanged".
--- The theorem in proofs/Leftmost.antt says that this is 002's leftmost rewrite relation
-abbrev pub rewrite : List ℕ → List ℕ → List ℕ → List ℕ
-rewrite u v [] = []
-rewrite u v (a ∷ w) = elim (prefix u (a ∷ w)) [ true ↦ v ++ drop (length u) (a ∷ w) | false ↦ a ∷ rewrite u v w ]
+-- what becomes of the tags behind a match, where f is the rewriting: "once"; or "after a match, matching begins again behind the match's
+-- last tag, and no tag of the old match counts for the next" (document 02, W4)
+abbrev pub behind : Kind → (List ℕ → List ℕ) → List ℕ → List ℕ
+behind once f w = w
+behind everywhere f w = f w
+
+-- "If u occurs in a sentence, its leftmost occurrence becomes v", u with the new tag at p; "otherwise the sentence is unchanged". The number
+-- is the sentence's length, or more: it makes the definition end. The theorems in proofs/Leftmost.antt say that this is 002's leftmost
+-- rewrite relation, and that relation again behind each match
+abbrev pub rewrite : ℕ → Rule → List ℕ → List ℕ
+rewrite zero r w = w
+rewrite (suc n) r [] = []
+rewrite (suc n) r (a ∷ w) =
+    let u = r .pattern in
+    elim (prefix u (a ∷ w)) [
+      | true ↦ set (take (length u) (a ∷ w)) (r .place) (r .tag) ++ behind (r .kind) (rewrite n r) (drop (length u) (a ∷ w))
+      | false ↦ a ∷ rewrite n r w
+    ]
 
 abbrev pub apply : Rule → List ℕ → List ℕ
-apply r w = rewrite (r .pattern) (replaced r) w
+apply r w = rewrite (length w) r w
 
 -- "A book applies its rules in order, each to the result of the one before"
 abbrev pub applyAll : List Rule → List ℕ → List ℕ

@@ -5,11 +5,20 @@ use mathlib.Core.List.{List, [], _∷_}
 use lib.ListN.{length, take, getD, set}
 use Rattle.words.specs.Word.{Below}
 
+-- where a rule fires: at its leftmost match, once; or everywhere (document 02, W4)
+pub data Kind : Type 0 where
+  once : Kind
+  everywhere : Kind
+
 -- "A rule has a pattern u of 1 to 6 tags, a place p counted from 0, and a new tag"
 pub record Rule : Type 0 where
+  pub kind : Kind
   pub pattern : List ℕ
   pub place : ℕ
   pub tag : ℕ
+
+abbrev pub rule : Kind → List ℕ → ℕ → ℕ → Rule
+rule k u p t = record { kind = k; pattern = u; place = p; tag = t }
 
 -- "v is u with the tag at p replaced"
 abbrev pub replaced : Rule → List ℕ

@@ -1,14 +1,19 @@
 -- A rule as one value of the code.
 use Prim.Native.Nat.{_≤_}
 use mathlib.Core.Path.{_≡_}
+use mathlib.Core.Bool.{Bool, true, false}
 use lib.ListN.{length, take}
 use Rattle.limits.specs.Limits.{longest-pattern}
-use Rattle.cascades.specs.Rule.{Rule}
+use Rattle.cascades.specs.Rule.{Kind, once, everywhere, Rule}
 use Rattle.cascades.specs.declared.Rule.{Rule as Value}
+
+abbrev pub kindOf : Bool → Kind
+kindOf true = everywhere
+kindOf false = once
 
 -- the rule that it is
 abbrev pub ruleOf : Value → Rule
-ruleOf v = record { pattern = take (v .length) (v .row); place = v .place; tag = v .tag }
+ruleOf v = record { kind = kindOf (v .everywhere); pattern = take (v .length) (v .row); place = v .place; tag = v .tag }
 
 -- the pattern is in the row
 pub record Formed (v : Value) : Type 0 where

@@ -3,6 +3,7 @@ use limits::PATTERN;
 
 // A rule. The first `length` tags of the row are its pattern; specs/Value.antt says which rule it is.
 pub struct Rule {
+    pub everywhere: bool,
     pub row: [u8; PATTERN],
     pub length: usize,
     pub place: usize,

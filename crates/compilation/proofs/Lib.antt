@@ -1,6 +1,7 @@
 -- Theorems about compiling.
 pub mod Marked
 pub mod Examples
+pub mod Everywhere
 pub mod Answer
 pub mod Parts
 pub mod Demand

@@ -1,18 +1,35 @@
 -- The search for the first place at which a pattern begins.
 use Prim.Native.Nat.{ℕ, zero, suc, _+_, _-_, _≤_, _<_, min}
 use native.Mathlib.Omega.{arith}
-use native.Mathlib.Numerals.{add-one}
 use native.Mathlib.Decide.{ℕ-discrete, decLt}
 use mathlib.Core.Path.{_≡_, refl, sym, ap, _∙_, subst}
 use mathlib.Core.Bool.{Bool, true, false}
 use mathlib.Core.List.{List}
-use lib.ListN.{length, drop, getD, set, List·getD-append}
+use lib.ListN.{length, drop, getD, set, length-drop, List·getD-append}
 use lib.Seq.{getD-drop}
 use Rattle.words.specs.Word.{prefix}
+use Rattle.words.specs.Parts.{Begun}
 use Rattle.words.proofs.Word.{prefix-split}
-use Rattle.cascades.specs.Rewrite.{rewrite}
-use Rattle.cascades.proofs.Rewrite.{From, first-other, search-next, search-none, search-found}
-use Rattle.leftmost.specs.Leftmost.{Nowhere, Apart, Together, FirstPlace}
+use Rattle.cascades.specs.Rule.{Kind, everywhere, rule}
+use Rattle.cascades.specs.Rewrite.{behind, apply}
+use Rattle.cascades.proofs.Rewrite.{prefix-short, first-other, begun-other, begun-short, begun-match}
+use Rattle.leftmost.specs.Leftmost.{Nowhere, Absent, Present, Apart, Together, FirstPlace}
+
+-- ---- a tag
+
+module _ (x : ℕ) (s : List ℕ) where
+  pub absent-none : (a b : ℕ) → b ≤ a → Absent x s a b
+  absent-none a b h i k l = absurd (omega arith)
+
+  pub absent-more : (a j : ℕ) → Absent x s a (a + j) → (getD s (a + j) 0 ≡ x → ⊥) → Absent x s a (a + (j + 1))
+  absent-more a j f n i k l = by (ℕ-discrete i (a + j))
+    where
+      by : Dec (i ≡ a + j) → getD s i 0 ≡ x → ⊥
+      by (yes e) = λ d. n (subst (λ (m : ℕ). getD s m 0 ≡ x) e d)
+      by (no e) = f i k (omega arith)
+
+  pub present-all : (a j n : ℕ) → j ≤ n → Present x s a (a + j) → Present x s a (a + n)
+  present-all a j n h t = record { place = t .place; after = t .after; inside = omega (arith, t .inside); there = t .there }
 
 -- ---- a tag and another w places after it
 
@@ -62,6 +79,9 @@ module _ (u s : List ℕ) where
       by (yes e) = tag-other i w h (f i k l e)
       by (no e) = first-other u s i (omega arith) (omega arith) e
 
+  pub absent-nowhere : (a b : ℕ) → 0 < length u → b ≤ length s → Absent (getD u 0 0) s a b → Nowhere u s a b
+  absent-nowhere a b h m f i k l = first-other u s i h (omega arith) (f i k l)
+
   pub nowhere-none : (a b : ℕ) → b ≤ a → Nowhere u s a b
   nowhere-none a b h i k l = absurd (omega arith)
 
@@ -92,21 +112,43 @@ module _ (u s : List ℕ) where
       by (yes d) = subst (λ (m : ℕ). prefix u (drop m s) ≡ false) (sym d) e
       by (no d) = f j k (omega arith)
 
-  -- a rewriting begins at no place passed
-  from-nowhere : (v : List ℕ) (b : ℕ) → b ≤ length s → Nowhere u s 0 b → From u v s b
-  from-nowhere v zero h f = refl
-  from-nowhere v (suc b) h f =
-      let g : From u v s b = from-nowhere v b (omega arith) (λ i k l. f i k (omega arith)) in
-      subst (From u v s) (add-one b) (search-next u v s b g (omega arith) (f b (omega arith) (omega arith)))
+  -- u has no room from b on
+  nowhere-short : (a b : ℕ) → length s < b + length u → Nowhere u s a b → Nowhere u s a (length s)
+  nowhere-short a b h f i x y = by (decLt i b)
+    where
+      by : Dec (i < b) → prefix u (drop i s) ≡ false
+      by (yes l) = f i x l
+      by (no l) = prefix-short u (drop i s) (omega (arith, length-drop i s))
 
-  -- the rewriting, where u begins first at r below b, or nowhere below it
-  module _ (p t b r : ℕ) (hp : p < length u) (room : b + length u ≤ length s + 1) (at : FirstPlace u s 0 b r) where
-    pub rewrite-there : r < b → set s (r + p) t ≡ rewrite u (set u p t) s
-    rewrite-there h =
-        let f : From u (set u p t) s r = from-nowhere (set u p t) r (omega arith) (at .passed) in
-        sym (search-found u s p t r f hp (omega arith) (at .here h))
+  pub found-nowhere : (b : ℕ) → length s < b + length u → Nowhere u s 0 b → FirstPlace u s 0 (length s) (length s)
+  found-nowhere b h f = record { after = omega arith; inside = omega arith; passed = nowhere-short 0 b h f; here = λ l. absurd (omega arith) }
 
-    pub rewrite-nowhere : b ≤ r → length s < b + length u → s ≡ rewrite u (set u p t) s
-    rewrite-nowhere h all =
-        let f : From u (set u p t) s r = from-nowhere (set u p t) r (omega (arith, at .inside)) (at .passed) in
-        sym (search-none u (set u p t) s r f (omega (arith, at .inside)) (omega arith))
+  -- the rewriting begins at no place passed
+  module _ (k : Kind) (p t : ℕ) (s₀ : List ℕ) (a : ℕ) (done : Begun (apply (rule k u p t)) (apply (rule k u p t)) s₀ s a) where
+    passed-places : (d : ℕ) → a + d ≤ length s → Nowhere u s a (a + d) → Begun (apply (rule k u p t)) (apply (rule k u p t)) s₀ s (a + d)
+    passed-places zero h f = let e : a + 0 ≡ a = omega arith in rw e done
+    passed-places (suc d) h f =
+        let e : a + suc d ≡ a + d + 1 = omega arith in
+        let b = passed-places d (omega arith) (λ i x y. f i x (omega arith)) in
+        rw e (begun-other (rule k u p t) s₀ s (a + d) b (omega arith) (f (a + d) (omega arith) (omega arith)))
+
+    pub begun-nowhere : (b : ℕ) → a ≤ b → b ≤ length s → Nowhere u s a b → Begun (apply (rule k u p t)) (apply (rule k u p t)) s₀ s b
+    begun-nowhere b h l f =
+        let e : a + (b - a) ≡ b = omega arith in
+        subst (Begun (apply (rule k u p t)) (apply (rule k u p t)) s₀ s) e (passed-places (b - a) (omega arith) (subst (λ (i : ℕ). Nowhere u s a i) (sym e) f))
+
+    -- u begins first at r below b, or nowhere below it
+    module _ (b r : ℕ) (hp : p < length u) (room : b ≤ length s) (at : FirstPlace u s a b r) where
+      pub begun-there : Begun (apply (rule k u p t)) (apply (rule k u p t)) s₀ s r
+      begun-there = begun-nowhere r (at .after) (omega (arith, at .inside)) (at .passed)
+
+      pub found-match : r < b → Begun (apply (rule k u p t)) (behind k (apply (rule k u p t))) s₀ (set s (r + p) t) (r + length u)
+      found-match h = begun-match (rule k u p t) s₀ s r begun-there hp (at .here h)
+
+      pub found-none : b ≤ r → length s < b + length u → s ≡ apply (rule k u p t) s₀
+      found-none h all = begun-short (rule k u p t) s₀ s r begun-there (omega arith)
+
+-- of an everywhere rule, wherever its rewriting began: from `from` on s has become x, and it goes on at i
+abbrev pub GoesOn : List ℕ → ℕ → ℕ → List ℕ → ℕ → List ℕ → ℕ → Type 0
+GoesOn u p t s from x i = (z : List ℕ) → Begun (apply (rule everywhere u p t)) (apply (rule everywhere u p t)) z s from
+    → Begun (apply (rule everywhere u p t)) (apply (rule everywhere u p t)) z x i

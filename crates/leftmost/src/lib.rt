@@ -1,12 +1,11 @@
-// The leftmost occurrence of a pattern, found and rewritten.
+// The leftmost occurrence of a pattern, found and rewritten, once or again behind each match.
 use words::lesser;
 ghost use mathlib.Core.Path.{_≡_};
 ghost use mathlib.Core.Bool.{true, false};
 ghost use Prim.Native.Nat.{_+_, _≤_, _<_};
-ghost use lib.ListN.{length, set, drop};
+ghost use lib.ListN.{length, drop};
 ghost use Rattle.words.specs.Word.{prefix};
-ghost use Rattle.cascades.specs.Rewrite.{rewrite};
-ghost use Rattle.leftmost.specs.Leftmost.{Apart, Together, Places, FirstPlace};
+ghost use Rattle.leftmost.specs.Leftmost.{Absent, Present, Apart, Together, Places, FirstPlace, Rewritten, RewrittenBehind};
 
 // How many places one look takes.
 const BLOCK: usize = 16;
@@ -56,6 +55,22 @@ fn stands(s: &[u8], from: usize, w: usize, first: u8, last: u8) -> bool
     hit
 }
 
+// Whether the tag stands at one of 16 places from `from` on.
+fn has(s: &[u8], from: usize, tag: u8) -> bool
+    requires { ⌜ from + 16 ≤ length (now s) ⌝ }
+    ensures { λ r. ⌜ (r ≡ false → Absent tag (now (s .entry)) from (from + 16)) × (r ≡ true → Present tag (now (s .entry)) from (from + 16)) ⌝ }
+{
+    let mut seen = false;
+    let mut k = 0;
+    while k < BLOCK {
+        if s[from + k] == tag {
+            seen = true;
+        }
+        k += 1;
+    }
+    seen
+}
+
 // The first place from `from` up to `to` at which u begins, or `to`; place by place.
 fn seek(s: &[u8], from: usize, to: usize, u: &[u8]) -> usize
     requires { ⌜ Places (now u) (now s) from to ⌝ }
@@ -102,29 +117,103 @@ fn sweep(s: &[u8], to: usize, u: &[u8]) -> usize
     to
 }
 
+// The same, place by place and two of them a round.
+fn seek_front(s: &[u8], to: usize, u: &[u8]) -> usize
+    requires { ⌜ Places (now u) (now s) 0 to ⌝ }
+    ensures { λ r. ⌜ FirstPlace (now (u .entry)) (now (s .entry)) 0 to r ⌝ }
+{
+    let w = u.len() - 1;
+    let first = u[0];
+    let last = u[w];
+    let mut i = 0;
+    while i + 1 < to {
+        if s[i] == first {
+            if s[i + w] == last {
+                if begins(s, i, u) {
+                    return i;
+                }
+            }
+        }
+        let next = i + 1;
+        if s[next] == first {
+            if s[next + w] == last {
+                if begins(s, next, u) {
+                    return next;
+                }
+            }
+        }
+        i += 2;
+    }
+    if i < to {
+        if begins(s, i, u) {
+            return i;
+        }
+    }
+    to
+}
+
 // The first place up to `to` at which u begins, or `to`.
 fn search(s: &[u8], to: usize, u: &[u8]) -> usize
     requires { ⌜ Places (now u) (now s) 0 to ⌝ }
     ensures { λ r. ⌜ FirstPlace (now (u .entry)) (now (s .entry)) 0 to r ⌝ }
 {
     if to < SHORT {
-        return seek(s, 0, to, u);
+        return seek_front(s, to, u);
     }
     sweep(s, to, u)
 }
 
-// The leftmost occurrence of u gets the new tag at its place p.
-pub fn rewrite_leftmost(s: &mut [u8], u: &[u8], p: usize, tag: u8)
-    requires { ⌜ p < length (now u) ⌝ }
-    ensures { λ r. ⌜ now (s .exit) ≡ rewrite (now (u .entry)) (set (now (u .entry)) p tag) (now (s .entry)) ⌝ }
+// The first place at which u begins, or the sentence's length where it begins nowhere.
+pub fn find(s: &[u8], u: &[u8]) -> usize
+    requires { ⌜ 0 < length (now u) ⌝ }
+    ensures { λ r. ⌜ FirstPlace (now (u .entry)) (now (s .entry)) 0 (length (now (s .entry))) r ⌝ }
 {
     let n = u.len();
     if s.len() < n {
-        return;
+        return s.len();
     }
     let to = s.len() - n + 1;
     let i = search(s, to, u);
-    if i < to {
-        s[i + p] = tag;
+    if i == to {
+        return s.len();
     }
+    i
+}
+
+// The matches of u from `from` on that begin before `to` get the new tag, each sought behind the one before, place by place: the place
+// where the search for the next one begins.
+fn rewrite_places(s: &mut [u8], from: usize, to: usize, u: &[u8], p: usize, tag: u8) -> usize
+    requires { ⌜ (p < length (now u)) × (to + length (now u) ≤ length (now s) + 1) × (from ≤ length (now s)) ⌝ }
+    ensures { λ r. ⌜ Rewritten (now (u .entry)) p tag (now (s .entry)) (now (s .exit)) from to r ⌝ }
+{
+    let n = u.len();
+    let mut i = from;
+    while i < to {
+        let at = seek(s, i, to, u);
+        if at == to {
+            return to;
+        }
+        s[at + p] = tag;
+        i = at + n;
+    }
+    i
+}
+
+// An everywhere rule from `from` on, behind a match: the first match there gets the new tag, so does the first behind it, and so on. It
+// looks place by place only in blocks of 16 places where u's first tag stands.
+pub fn rewrite_behind(s: &mut [u8], from: usize, u: &[u8], p: usize, tag: u8)
+    requires { ⌜ (p < length (now u)) × (length (now u) ≤ length (now s)) × (from ≤ length (now s)) ⌝ }
+    ensures { λ _. ⌜ RewrittenBehind (now (u .entry)) p tag (now (s .entry)) (now (s .exit)) from ⌝ }
+{
+    let to = s.len() - u.len() + 1;
+    let first = u[0];
+    let mut i = from;
+    while i + BLOCK <= to {
+        if has(s, i, first) {
+            i = rewrite_places(s, i, i + BLOCK, u, p, tag);
+            continue;
+        }
+        i += BLOCK;
+    }
+    rewrite_places(s, i, to, u, p, tag);
 }

@@ -15,7 +15,7 @@ use Rattle.words.specs.Overlap.{overlap}
 use Rattle.words.proofs.Word.{below-take, below-drop}
 use Rattle.words.proofs.Overlap.{skipped, overlap-split, overlap-le}
 use Rattle.words.proofs.Pieces.{Without}
-use Rattle.cascades.specs.Rule.{Rule, ValidRule}
+use Rattle.cascades.specs.Rule.{Kind, once, everywhere, Rule, ValidRule}
 use Rattle.cascades.specs.Ending.{before}
 use Rattle.cascades.proofs.Ending.{no-or, before-at}
 use Rattle.transducers.specs.Transducer.{Shape, puts}
@@ -24,8 +24,8 @@ use Rattle.transducers.specs.Canonical.{Inside, Minimal, Sound}
 use Rattle.transducers.specs.Ended.{ended}
 use Rattle.transducers.proofs.Ended.{sound-ended}
 use Rattle.minimal.specs.Matcher.{held}
-use Rattle.minimal.specs.OneRule.{borders, oneRule}
-use Rattle.minimal.proofs.OneRule.{overlap-step, borders-move, sound-rule, walk-prefix, early-rule, apart-rule}
+use Rattle.minimal.specs.OneRule.{states, borders, oneRule}
+use Rattle.minimal.proofs.OneRule.{states-few, fired-holds, overlap-step, borders-move, sound-rule, walk-prefix, early-rule, apart-rule}
 use Rattle.minimal.proofs.Matcher.{held-in, held-all, moves-after, moves-match, moves-on}
 
 -- equal words end with equal tags
@@ -91,17 +91,17 @@ module _ (e : ℕ) (r : Rule) (free : before e (r .pattern) ≡ false) where
       in
       absurd (before-at e u free i (omega arith) (sym (last-same (take j u) (skipped u t ++ take i u) e (getD u i 0) snoc)))
 
-  pub quiet-rule : (j : ℕ) → j ≤ length u → oneRule r .final (oneRule r .next j e) ≡ []
-  quiet-rule j inside = by (decLt j (length u)) (decLt (reached j) (length u))
+  pub quiet-rule : r .place < length u → (j : ℕ) → j ≤ length u → oneRule r .final (oneRule r .next j e) ≡ []
+  quiet-rule inside j le = by (decLt j (length u)) (decLt (reached j) (length u))
     where
       by : Dec (j < length u) → Dec (reached j < length u) → oneRule r .final (oneRule r .next j e) ≡ []
       by (no a) b =
-          ap (λ (q : ℕ). held u (r .place) q) (moves-after u (r .place) (r .tag) (borders u) j e (omega arith)) ∙ held-all u (r .place) (r .tag) j (omega arith)
+          ap (λ (q : ℕ). held u (r .place) q) (moves-after u (r .place) (r .tag) (borders (r .kind) u) j e (omega arith)) ∙ held-all u (r .place) (r .tag) j (omega arith)
       by (yes a) (no b) =
           let all : reached j ≡ length u = omega (arith, overlap-le u (take j u ++ (e ∷ [])) .1) in
-          ap (λ (q : ℕ). held u (r .place) q) (moves-match u (r .place) (r .tag) (borders u) j e a all) ∙ held-all u (r .place) (r .tag) (length u) refl
+          ap (λ (q : ℕ). held u (r .place) q) (moves-match u (r .place) (r .tag) (borders (r .kind) u) j e a all) ∙ fired-holds (r .kind) u (r .place) inside
       by (yes a) (yes b) =
-          ap (λ (q : ℕ). held u (r .place) q) (moves-on u (r .place) (r .tag) (borders u) j e a b ∙ none-matched j (reached j) refl b)
+          ap (λ (q : ℕ). held u (r .place) q) (moves-on u (r .place) (r .tag) (borders (r .kind) u) j e a b ∙ none-matched j (reached j) refl b)
           ∙ held-in u (r .place) (r .tag) 0 (omega arith) ∙ nothing (r .place)
         where
           nothing : (p : ℕ) → _≡_ {A = List ℕ} (drop {A = ℕ} p []) []
@@ -124,15 +124,15 @@ walk-upto m S (a ∷ w) q = walk-upto m S w (S .next q a)
 
 -- m states are enough if none of them leads out, and all are needed if the end tag stands in none of the fronts that lead to them
 module _ (l k e : ℕ) (r : Rule) (ok : ValidRule l k r) (free : before e (r .pattern) ≡ false)
-    (m : ℕ) (some : 0 < m) (few : m ≤ suc (length (r .pattern))) (inside : Inside k (upto m (ended e (oneRule r))))
+    (m : ℕ) (some : 0 < m) (few : m ≤ states (r .kind) (length (r .pattern))) (inside : Inside k (upto m (ended e (oneRule r))))
     (fronts : (j : ℕ) → j < m → Without e (take j (r .pattern))) where
-  abbrev pub states : Shape
-  states = upto m (ended e (oneRule r))
+  abbrev pub reached-states : Shape
+  reached-states = upto m (ended e (oneRule r))
 
   whole : Sound k (ended e (oneRule r))
   whole = sound-ended e (oneRule r) k (sound-rule l k r ok)
 
-  pub sound-states : Sound k states
+  pub sound-states : Sound k reached-states
   sound-states =
       record {
         some = some;
@@ -143,7 +143,7 @@ module _ (l k e : ℕ) (r : Rule) (ok : ValidRule l k r) (free : before e (r .pa
         balanced = λ q a h g. whole .balanced q a (omega arith) g;
       }
 
-  on-rest : (q i : ℕ) → puts states q (drop i (r .pattern)) ≡ puts (oneRule r) q (drop i (r .pattern))
+  on-rest : (q i : ℕ) → puts reached-states q (drop i (r .pattern)) ≡ puts (oneRule r) q (drop i (r .pattern))
   on-rest q i =
       puts-upto m (ended e (oneRule r)) (drop i (r .pattern)) q
       ∙ puts-piece e (oneRule r) (whole .empty) (drop i (r .pattern)) (before-drop e i (r .pattern) free) q
@@ -151,8 +151,9 @@ module _ (l k e : ℕ) (r : Rule) (ok : ValidRule l k r) (free : before e (r .pa
   rest-below : (i : ℕ) → Below k (drop i (r .pattern))
   rest-below i = below-drop k i (r .pattern) (ok .pattern-below)
 
-  pub minimal-states : Minimal k states
+  pub minimal-states : Minimal k reached-states
   minimal-states =
+      let most = states-few (r .kind) (length (r .pattern)) in
       record {
         next-below = inside;
         reached = λ j h.
@@ -166,7 +167,8 @@ module _ (l k e : ℕ) (r : Rule) (ok : ValidRule l k r) (free : before e (r .pa
             apart-rule l k r ok i j (omega arith) (omega arith) (λ x. sym (on-rest i x) ∙ same (drop x (r .pattern)) (rest-below x) ∙ on-rest j x);
       }
 
--- the two numbers: one more than the pattern has tags, and as many where it ends with the end tag
+-- the two numbers: of a leftmost rule one more than the pattern has tags, and as many where it ends with the end tag; of an everywhere rule
+-- as many
 module _ (l k e : ℕ) (r : Rule) (ok : ValidRule l k r) (free : before e (r .pattern) ≡ false) where
   abbrev n : ℕ
   n = length (r .pattern)
@@ -185,39 +187,53 @@ module _ (l k e : ℕ) (r : Rule) (ok : ValidRule l k r) (free : before e (r .pa
       at i b f (yes g) = before-at e (r .pattern) free i g f
       at i b f (no g) = let z : i ≡ n - 1 = omega arith in other (omega arith) (ap (λ (x : ℕ). getD (r .pattern) x 0) (sym z) ∙ f)
 
-  -- all are reached
-  module _ (other : last ≡ e → ⊥) where
-    pub fronts-all : (j : ℕ) → j < suc n → Without e (take j (r .pattern))
-    fronts-all j h = front-free j (omega arith) (λ z. other)
+  -- of an everywhere rule all are reached, and nothing lies behind a match
+  module _ (kind : r .kind ≡ everywhere) where
+    pub fronts-within : (j : ℕ) → j < n → Without e (take j (r .pattern))
+    fronts-within j h = front-free j (omega arith) (λ z. omega arith)
 
-    pub inside-all : Inside k (upto (suc n) (ended e (oneRule r)))
-    inside-all = sound-ended e (oneRule r) k (sound-rule l k r ok) .next-below
+    pub inside-within : Inside k (upto n (ended e (oneRule r)))
+    inside-within =
+        let all : states (r .kind) n ≡ n = ap (λ (x : Kind). states x n) kind in
+        λ q a h g. omega (arith, sound-ended e (oneRule r) k (sound-rule l k r ok) .next-below q a (omega arith) g)
 
-  -- the one after a whole match is not: it begins afresh
-  module _ (same : last ≡ e) where
-    pub fronts-before : (j : ℕ) → j < n → Without e (take j (r .pattern))
-    fronts-before j h = front-free j (omega arith) (λ z. omega arith)
+  module _ (kind : r .kind ≡ once) where
+    all-states : states (r .kind) n ≡ suc n
+    all-states = ap (λ (x : Kind). states x n) kind
 
-    -- what completes the pattern is its last tag
-    completes : (q a : ℕ) → overlap (r .pattern) (take q (r .pattern) ++ (a ∷ [])) ≡ n → a ≡ e
-    completes q a is =
-        let u = r .pattern in
-        let t = take q u ++ (a ∷ []) in
-        let pos : 0 < n = omega (arith, ok .place-inside) in
-        let is-n : suc (n - 1) ≡ n = omega arith in
-        let split : t ≡ skipped u t ++ take n u = overlap-split u t ∙ ap (λ (i : ℕ). skipped u t ++ take i u) is in
-        let snoc : t ≡ (skipped u t ++ take (n - 1) u) ++ (last ∷ []) =
-        split ∙ ap (λ (i : ℕ). skipped u t ++ take i u) (sym is-n) ∙ ap (λ (y : List ℕ). skipped u t ++ y) (take-suc u (n - 1) 0 (omega arith))
-        ∙ sym (append-assoc (skipped u t) (take (n - 1) u) (last ∷ []))
-        in
-        last-same (take q u) (skipped u t ++ take (n - 1) u) a last snoc ∙ same
+    -- all are reached
+    module _ (other : last ≡ e → ⊥) where
+      pub fronts-all : (j : ℕ) → j < suc n → Without e (take j (r .pattern))
+      fronts-all j h = front-free j (omega arith) (λ z. other)
 
-    pub inside-before : Inside k (upto n (ended e (oneRule r)))
-    inside-before q a h g = by (eqb a e) refl
-      where
-        by : (t : Bool) → eqb a e ≡ t → elim t as (λ x. ℕ) [ true ↦ 0 | false ↦ oneRule r .next q a ] < n
-        by true f = omega arith
-        by false f =
-            let le = overlap-step (r .pattern) q a h .1 in
-            let ne : overlap (r .pattern) (take q (r .pattern) ++ (a ∷ [])) ≡ n → ⊥ = λ z. false≢true (sym f ∙ eq-eqb a e (completes q a z)) in
-            omega (arith, borders-move (r .pattern) q a h, le, ne)
+      pub inside-all : Inside k (upto (suc n) (ended e (oneRule r)))
+      inside-all q a h g = omega (arith, sound-ended e (oneRule r) k (sound-rule l k r ok) .next-below q a (omega (arith, all-states)) g, all-states)
+
+    -- the one after a whole match is not: it begins afresh
+    module _ (same : last ≡ e) where
+      pub fronts-before : (j : ℕ) → j < n → Without e (take j (r .pattern))
+      fronts-before j h = front-free j (omega arith) (λ z. omega arith)
+
+      -- what completes the pattern is its last tag
+      completes : (q a : ℕ) → overlap (r .pattern) (take q (r .pattern) ++ (a ∷ [])) ≡ n → a ≡ e
+      completes q a is =
+          let u = r .pattern in
+          let t = take q u ++ (a ∷ []) in
+          let pos : 0 < n = omega (arith, ok .place-inside) in
+          let is-n : suc (n - 1) ≡ n = omega arith in
+          let split : t ≡ skipped u t ++ take n u = overlap-split u t ∙ ap (λ (i : ℕ). skipped u t ++ take i u) is in
+          let snoc : t ≡ (skipped u t ++ take (n - 1) u) ++ (last ∷ []) =
+          split ∙ ap (λ (i : ℕ). skipped u t ++ take i u) (sym is-n) ∙ ap (λ (y : List ℕ). skipped u t ++ y) (take-suc u (n - 1) 0 (omega arith))
+          ∙ sym (append-assoc (skipped u t) (take (n - 1) u) (last ∷ []))
+          in
+          last-same (take q u) (skipped u t ++ take (n - 1) u) a last snoc ∙ same
+
+      pub inside-before : Inside k (upto n (ended e (oneRule r)))
+      inside-before q a h g = by (eqb a e) refl
+        where
+          by : (t : Bool) → eqb a e ≡ t → elim t as (λ x. ℕ) [ true ↦ 0 | false ↦ oneRule r .next q a ] < n
+          by true f = omega arith
+          by false f =
+              let le = overlap-step (r .pattern) q a h .1 in
+              let ne : overlap (r .pattern) (take q (r .pattern) ++ (a ∷ [])) ≡ n → ⊥ = λ z. false≢true (sym f ∙ eq-eqb a e (completes q a z)) in
+              omega (arith, borders-move (r .pattern) (r .kind) q a h (omega (arith, all-states)), le, ne)

@@ -14,21 +14,16 @@ use Rattle.words.specs.Front.{first}
 use Rattle.words.specs.Overlap.{overlap}
 use Rattle.words.proofs.Word.{below-suc, prefix-append, prefix-front, prefix-split, prefix-left, prefix-take, prefix-length}
 use Rattle.words.proofs.Overlap.{overlap-le, overlap-prefix}
-use Rattle.cascades.specs.Rule.{Rule, replaced, ValidRule}
-use Rattle.cascades.specs.Rewrite.{rewrite, apply}
-use Rattle.cascades.proofs.Rewrite.{rewrite-short}
+use Rattle.cascades.specs.Rule.{Kind, once, everywhere, Rule, replaced, ValidRule}
+use Rattle.cascades.specs.Rewrite.{behind, apply}
+use Rattle.cascades.proofs.Rewrite.{apply-other, apply-short, apply-front}
 use Rattle.transducers.specs.Transducer.{puts}
 use Rattle.transducers.specs.Run.{walk}
 use Rattle.transducers.specs.Canonical.{Same, Sound, Held}
 use Rattle.transducers.proofs.Run.{walk-append}
 use Rattle.minimal.specs.Matcher.{held, moves}
-use Rattle.minimal.specs.OneRule.{borders, oneRule}
+use Rattle.minimal.specs.OneRule.{states, fired, borders, oneRule}
 use Rattle.minimal.proofs.Matcher.{ending, Fronts, Rewrites, Matches, held-in, held-all, held-length, said-after, moves-after, moves-match, moves-on, does-before, sound-matching, held-matching}
-
--- u at the front becomes v
-pub rewrite-front : (u v x : List ℕ) → 0 < length u → rewrite u v (u ++ x) ≡ v ++ x
-rewrite-front [] v x h = absurd (omega arith)
-rewrite-front (b ∷ u) v x h = rw (prefix-append (b ∷ u) x, rewrite) (ap (λ (l : List ℕ). v ++ l) (drop-append-seam (b ∷ u) x))
 
 -- the borders are a matcher of the words that begin u
 prefix-whole : (m u : List ℕ) → prefix m u ≡ true → length m ≡ length u → m ≡ u
@@ -43,21 +38,42 @@ overlap-ending u (b ∷ t) = by (prefix (b ∷ t) u) (overlap-ending u t)
     by true e = refl
     by false e = e
 
+-- ---- the states of both kinds
+
+pub states-few : (k : Kind) (n : ℕ) → (n ≤ states k n) × (states k n ≤ suc n)
+states-few once n = (omega arith, omega arith)
+states-few everywhere n = (omega arith, omega arith)
+
+fired-inside : (k : Kind) (n : ℕ) → 0 < n → fired k n < states k n
+fired-inside once n h = omega arith
+fired-inside everywhere n h = h
+
+-- a state that is the whole pattern is the one after a match
+fired-there : (k : Kind) (n i : ℕ) → i < states k n → i ≡ n → fired k n ≡ i
+fired-there once n i h e = sym e
+fired-there everywhere n i h e = absurd (omega arith)
+
+-- after a match nothing is held
+pub fired-holds : (k : Kind) (u : List ℕ) (p : ℕ) → p < length u → held u p (fired k (length u)) ≡ []
+fired-holds once u p h = held-all u p 0 (length u) refl
+fired-holds everywhere u p h = held-in u p 0 0 (omega arith) ∙ drop-of-length-le [] {i = p} (omega arith)
+
 module _ (u : List ℕ) where
   pub overlap-step : (s a : ℕ) → s < length u → (overlap u (take s u ++ (a ∷ [])) ≤ suc s) × (overlap u (take s u ++ (a ∷ [])) ≤ length u)
   overlap-step s a h =
       let o = overlap-le u (take s u ++ (a ∷ [])) in
       (omega (arith, o .0, length-append (take s u) (a ∷ []), length-take-le s u (omega arith)), o .1)
 
-  -- before the whole pattern is matched a step goes to the overlap
-  pub borders-move : (j a : ℕ) → j < length u → moves (length u) (borders u) j a ≡ overlap u (take j u ++ (a ∷ []))
-  borders-move j a h = by (ℕ-discrete (overlap u (take j u ++ (a ∷ []))) (length u))
+  -- a step goes to the overlap, if that is a state
+  pub borders-move : (k : Kind) (j a : ℕ) → j < length u → overlap u (take j u ++ (a ∷ [])) < states k (length u)
+      → moves (length u) (borders k u) j a ≡ overlap u (take j u ++ (a ∷ []))
+  borders-move k j a h l = by (ℕ-discrete (overlap u (take j u ++ (a ∷ []))) (length u))
     where
-      by : Dec (overlap u (take j u ++ (a ∷ [])) ≡ length u) → moves (length u) (borders u) j a ≡ overlap u (take j u ++ (a ∷ []))
-      by (yes e) = moves-match u 0 0 (borders u) j a h e ∙ sym e
-      by (no g) = moves-on u 0 0 (borders u) j a h (omega (arith, overlap-step j a h .1))
+      by : Dec (overlap u (take j u ++ (a ∷ [])) ≡ length u) → moves (length u) (borders k u) j a ≡ overlap u (take j u ++ (a ∷ []))
+      by (yes e) = moves-match u 0 0 (borders k u) j a h e ∙ fired-there k (length u) (overlap u (take j u ++ (a ∷ []))) l e
+      by (no g) = moves-on u 0 0 (borders k u) j a h (omega (arith, overlap-step j a h .1))
 
-module _ (u : List ℕ) (p : ℕ) (inside : p < length u) where
+module _ (k : Kind) (u : List ℕ) (p : ℕ) (inside : p < length u) where
   fronts-borders : Fronts u p (λ z. prefix z u)
   fronts-borders =
       record {
@@ -71,8 +87,9 @@ module _ (u : List ℕ) (p : ℕ) (inside : p < length u) where
   step-overlap : (z : List ℕ) (a : ℕ) → prefix z u ≡ true → overlap u (take (length z) u ++ (a ∷ [])) ≡ length (ending (λ y. prefix y u) (z ++ (a ∷ [])))
   step-overlap z a e = ap (λ (y : List ℕ). overlap u (y ++ (a ∷ []))) (sym (prefix-take z u e)) ∙ overlap-ending u (z ++ (a ∷ []))
 
-  matches-borders : Matches u p (λ z. prefix z u) (borders u) length
+  matches-borders : Matches u p (λ z. prefix z u) (borders k u) length
   matches-borders =
+      let few = states-few k (length u) in
       record {
         start = refl;
         codes = λ z e h. refl;
@@ -82,26 +99,32 @@ module _ (u : List ℕ) (p : ℕ) (inside : p < length u) where
         few = λ s h. omega arith;
         one-more = λ s a h l. overlap-step u s a l;
         step-below = λ s a h l m. omega arith;
-        fired-below = omega arith;
-        fired-empty = held-all u p 0 (length u) refl;
+        fired-below = fired-inside k (length u) (omega arith);
+        fired-empty = fired-holds k u p inside;
       }
 
-  rewrites-once : (t : ℕ) → Rewrites u p t (λ z. prefix z u) (rewrite u (set u p t)) (λ w. w)
-  rewrites-once t =
-      record {
-        none = refl;
-        other = λ a w none. by a w none (prefix u (a ∷ w)) refl;
-        match = λ m v e l. ap (λ (x : List ℕ). rewrite u (set u p t) (x ++ v)) (prefix-whole m u e l) ∙ rewrite-front u (set u p t) v (omega arith)
-            ∙ ap (λ (x : List ℕ). set x p t ++ v) (sym (prefix-whole m u e l));
-      }
-    where
-      itself : prefix u u ≡ true
-      itself = subst (λ (x : List ℕ). prefix u x ≡ true) (append-nil u) (prefix-append u [])
+-- the rule rewrites the leftmost match, and the rest by its kind
+rewrites-rule : (r : Rule) → 0 < length (r .pattern) → Rewrites (r .pattern) (r .place) (r .tag) (λ z. prefix z (r .pattern)) (apply r) (behind (r .kind) (apply r))
+rewrites-rule r some =
+    record {
+      none = refl;
+      other = λ a w none. by a w none (prefix u (a ∷ w)) refl;
+      match = λ m v e l. ap (λ (x : List ℕ). apply r (x ++ v)) (prefix-whole m u e l) ∙ apply-front r some v
+          ∙ ap (λ (x : List ℕ). set x (r .place) (r .tag) ++ behind (r .kind) (apply r) v) (sym (prefix-whole m u e l));
+    }
+  where
+    u : List ℕ
+    u = r .pattern
 
-      by : (a : ℕ) (w : List ℕ) → ((m v : List ℕ) → prefix m u ≡ true → length m ≡ length u → a ∷ w ≡ m ++ v → ⊥) → (c : Bool) → prefix u (a ∷ w) ≡ c
-          → elim c [ true ↦ set u p t ++ drop (length u) (a ∷ w) | false ↦ a ∷ rewrite u (set u p t) w ] ≡ a ∷ rewrite u (set u p t) w
-      by a w none true e = absurd (none u (drop (length u) (a ∷ w)) itself refl (prefix-split u (a ∷ w) e))
-      by a w none false e = refl
+    itself : prefix (r .pattern) (r .pattern) ≡ true
+    itself = subst (λ (x : List ℕ). prefix (r .pattern) x ≡ true) (append-nil (r .pattern)) (prefix-append (r .pattern) [])
+
+    by : (a : ℕ) (w : List ℕ) → ((m v : List ℕ) → prefix m (r .pattern) ≡ true → length m ≡ length (r .pattern) → a ∷ w ≡ m ++ v → ⊥) → (c : Bool) → prefix (r .pattern) (a ∷ w) ≡ c
+        → apply r (a ∷ w) ≡ a ∷ apply r w
+    by a w none true e = absurd (none (r .pattern) (drop (length (r .pattern)) (a ∷ w)) itself refl (prefix-split (r .pattern) (a ∷ w) e))
+    by a w none false e = apply-other r a w e
+
+-- ---- the transducer
 
 module _ (l k : ℕ) (r : Rule) (ok : ValidRule l k r) where
   u : List ℕ
@@ -150,19 +173,28 @@ module _ (l k : ℕ) (r : Rule) (ok : ValidRule l k r) where
   puts-end [] = held-end
   puts-end (a ∷ x) =
       let m = length (r .pattern) in
-      ap₂ (λ (o w : List ℕ). o ++ w) (said-after (r .pattern) (r .place) (r .tag) m a (borders (r .pattern) .step m a) refl)
-      (ap (λ (s : ℕ). puts (oneRule r) s x) (moves-after (r .pattern) (r .place) (r .tag) (borders (r .pattern)) m a refl) ∙ puts-end x)
+      ap₂ (λ (o w : List ℕ). o ++ w) (said-after (r .pattern) (r .place) (r .tag) m a (borders (r .kind) (r .pattern) .step m a) refl)
+      (ap (λ (s : ℕ). puts (oneRule r) s x) (moves-after (r .pattern) (r .place) (r .tag) (borders (r .kind) (r .pattern)) m a refl) ∙ puts-end x)
+
+  -- after a match the rest by the rule's kind
+  puts-fired : (x : List ℕ) → (take (r .place) [] ++ puts (oneRule r) 0 x ≡ apply r x) → puts (oneRule r) (fired (r .kind) (length (r .pattern))) x ≡ behind (r .kind) (apply r) x
+  unfolding n
+  puts-fired x again = by (r .kind) refl
+    where
+      by : (k : Kind) → r .kind ≡ k → puts (oneRule r) (fired k (length (r .pattern))) x ≡ behind k (apply r) x
+      by once e = puts-end x
+      by everywhere e = ap (λ (o : List ℕ). o ++ puts (oneRule r) 0 x) (sym (take-all (r .place) [] (omega arith))) ∙ again
 
   -- what was put out before and is still put out is what the rule makes of what was matched and is read
-  puts-in : (x : List ℕ) (j : ℕ) → j < n → take p (take j u) ++ puts (oneRule r) j x ≡ rewrite u v (take j u ++ x)
+  puts-in : (x : List ℕ) (j : ℕ) → j < n → take p (take j u) ++ puts (oneRule r) j x ≡ apply r (take j u ++ x)
   unfolding u v p n
   puts-in x j h =
       let w = take j (r .pattern) in
       let long : length w ≡ j = length-take-le j (r .pattern) (omega arith) in
       ap (λ (s : ℕ). take (r .place) w ++ puts (oneRule r) s x) (sym long)
-      ∙ does-before (r .pattern) (r .place) (r .tag) (λ z. prefix z (r .pattern)) (fronts-borders (r .pattern) (r .place) (ok .place-inside))
-      (rewrite (r .pattern) (replaced r)) (λ y. y) (rewrites-once (r .pattern) (r .place) (ok .place-inside) (r .tag)) (borders (r .pattern)) length
-      (matches-borders (r .pattern) (r .place) (ok .place-inside)) (λ y rest. puts-end y) x w (prefix-front j (r .pattern)) (omega arith)
+      ∙ does-before (r .pattern) (r .place) (r .tag) (λ z. prefix z (r .pattern)) (fronts-borders (r .kind) (r .pattern) (r .place) (ok .place-inside))
+      (apply r) (behind (r .kind) (apply r)) (rewrites-rule r (omega (arith, ok .place-inside))) (borders (r .kind) (r .pattern)) length
+      (matches-borders (r .kind) (r .pattern) (r .place) (ok .place-inside)) (λ y rest. puts-fired y (rest [] refl (omega (arith, ok .place-inside)))) x w (prefix-front j (r .pattern)) (omega arith)
 
   -- 002, proposition 3
   pub does-rule : Same k (puts (oneRule r) 0) (apply r)
@@ -171,38 +203,44 @@ module _ (l k : ℕ) (r : Rule) (ok : ValidRule l k r) where
 
   pub sound-rule : Sound k (oneRule r)
   sound-rule =
-      sound-matching k (r .pattern) (r .place) (r .tag) (λ z. prefix z (r .pattern)) (fronts-borders (r .pattern) (r .place) (ok .place-inside)) (borders (r .pattern)) length
-      (matches-borders (r .pattern) (r .place) (ok .place-inside)) (ok .pattern-below) (ok .tag-below)
+      sound-matching k (r .pattern) (r .place) (r .tag) (λ z. prefix z (r .pattern)) (fronts-borders (r .kind) (r .pattern) (r .place) (ok .place-inside)) (borders (r .kind) (r .pattern)) length
+      (matches-borders (r .kind) (r .pattern) (r .place) (ok .place-inside)) (ok .pattern-below) (ok .tag-below)
 
   -- at most one tag less than the pattern has is held
   pub held-rule : Held (l - 1) (oneRule r)
   held-rule j hj =
       omega (
         arith,
-        held-matching k (r .pattern) (r .place) (r .tag) (λ z. prefix z (r .pattern)) (fronts-borders (r .pattern) (r .place) (ok .place-inside)) (borders (r .pattern)) length
-            (matches-borders (r .pattern) (r .place) (ok .place-inside)) (ok .pattern-below) (ok .tag-below) j hj,
+        held-matching k (r .pattern) (r .place) (r .tag) (λ z. prefix z (r .pattern)) (fronts-borders (r .kind) (r .pattern) (r .place) (ok .place-inside)) (borders (r .kind) (r .pattern)) length
+            (matches-borders (r .kind) (r .pattern) (r .place) (ok .place-inside)) (ok .pattern-below) (ok .tag-below) j hj,
         ok .short,
       )
 
   -- a prefix of u leads to its own state
-  pub walk-prefix : (j : ℕ) → j ≤ length (r .pattern) → walk (oneRule r) 0 (take j (r .pattern)) ≡ j
+  pub walk-prefix : (j : ℕ) → j < states (r .kind) (length (r .pattern)) → walk (oneRule r) 0 (take j (r .pattern)) ≡ j
   unfolding u n
   walk-prefix zero h = refl
   walk-prefix (suc j) h =
-      let more : take (suc j) u ≡ take j u ++ (getD u j 0 ∷ []) = take-suc u j 0 h in
+      let in-u : j < length u = omega (arith, states-few (r .kind) (length (r .pattern))) in
+      let more : take (suc j) u ≡ take j u ++ (getD u j 0 ∷ []) = take-suc u j 0 in-u in
+      let there : overlap u (take j u ++ (getD u j 0 ∷ [])) ≡ suc j =
+      ap (overlap u) (sym more) ∙ overlap-prefix u (take (suc j) u) (prefix-front (suc j) u) ∙ length-take-le (suc j) u in-u in
       ap (walk (oneRule r) 0) more
       ∙ walk-append (oneRule r) 0 (take j u) (getD u j 0 ∷ [])
-      ∙ ap (λ (s : ℕ). moves (length (r .pattern)) (borders (r .pattern)) s (getD u j 0)) (walk-prefix j (omega arith))
-      ∙ borders-move (r .pattern) j (getD (r .pattern) j 0) h
-      ∙ ap (overlap u) (sym more)
-      ∙ overlap-prefix u (take (suc j) u) (prefix-front (suc j) u)
-      ∙ length-take-le (suc j) u h
+      ∙ ap (λ (s : ℕ). moves (length (r .pattern)) (borders (r .kind) (r .pattern)) s (getD u j 0)) (walk-prefix j (omega arith))
+      ∙ borders-move (r .pattern) (r .kind) j (getD (r .pattern) j 0) in-u (omega arith)
+      ∙ there
 
   -- the rest of u completes the match
   puts-rest : (j : ℕ) → j < n → take p (take j u) ++ puts (oneRule r) j (drop j u) ≡ v
-  unfolding u n
-  puts-rest j h = puts-in (drop j u) j h ∙ ap (rewrite u v) (take-append-drop j u ∙ sym (append-nil u)) ∙ rewrite-front u v [] (omega arith)
-      ∙ append-nil v
+  unfolding u v n
+  puts-rest j h =
+      puts-in (drop j u) j h ∙ ap (apply r) (take-append-drop j u ∙ sym (append-nil u)) ∙ apply-front r (omega (arith, ok .place-inside)) []
+      ∙ ap (λ (x : List ℕ). v ++ x) (nothing-behind (r .kind)) ∙ append-nil v
+    where
+      nothing-behind : (k : Kind) → behind k (apply r) [] ≡ []
+      nothing-behind once = refl
+      nothing-behind everywhere = refl
 
   -- up to the place all that was matched has been put out
   said-all : (j : ℕ) → j < n → (p < j → ⊥) → take p (take j u) ≡ take j u
@@ -262,7 +300,7 @@ module _ (l k : ℕ) (r : Rule) (ok : ValidRule l k r) where
       let short : length (take i u ++ x) < length u = omega (arith, length-append (take i u) x, length-take-le i u (omega arith), length-drop j u) in
       let keeps : puts (oneRule r) i x ≡ x =
       append-cancel-left (take i u) (puts (oneRule r) i x) x
-      (ap (λ (o : List ℕ). o ++ puts (oneRule r) i x) (sym (said-all i (omega arith) (λ g. omega arith))) ∙ puts-in x i (omega arith) ∙ rewrite-short u v (take i u ++ x) short) in
+      (ap (λ (o : List ℕ). o ++ puts (oneRule r) i x) (sym (said-all i (omega arith) (λ g. omega arith))) ∙ puts-in x i (omega arith) ∙ apply-short r (take i u ++ x) short) in
       changed j h b (sym keeps ∙ same j)
   told i j lt (inr e) (yes d) b same = omega (arith, same-length i j same, held-long i (omega arith), ap (λ (s : ℕ). length (held (r .pattern) (r .place) s)) e, ap length held-end)
   told i j lt (inr e) (no d) b same =

@@ -11,7 +11,7 @@ use Rattle.words.specs.Word.{Below, Prefix}
 use Rattle.words.specs.Front.{first}
 use Rattle.words.specs.Pieces.{piecewise}
 use Rattle.words.proofs.Pieces.{Without, Keeps, piecewise-then, piecewise-same, piecewise-below, keeps-then}
-use Rattle.cascades.specs.Rule.{Rule, ValidRule, ValidRules, Cascade, having, ValidCascade}
+use Rattle.cascades.specs.Rule.{Kind, once, everywhere, Rule, ValidRule, ValidRules, Cascade, having, ValidCascade}
 use Rattle.cascades.specs.Rewrite.{apply, applyAll, behavior}
 use Rattle.cascades.specs.Ending.{before, misused}
 use Rattle.cascades.specs.Spares.{Spares, Spare}
@@ -33,10 +33,10 @@ use Rattle.transducers.proofs.Normalize.{doing-normalize, early-normalize}
 use Rattle.transducers.proofs.Merge.{doing-merge, early-merge, apart-merge}
 use Rattle.transducers.proofs.Number.{doing-number, canonical-number}
 use Rattle.transducers.proofs.Ended.{does-ended, sound-ended}
-use Rattle.minimal.specs.OneRule.{oneRule, ruleTable}
+use Rattle.minimal.specs.OneRule.{states, oneRule, ruleTable}
 use Rattle.minimal.specs.TableOf.{identity, add, addRule, addAll, tableOf}
-use Rattle.minimal.proofs.OneRule.{does-rule, sound-rule, held-rule}
-use Rattle.minimal.proofs.Ending.{upto, puts-upto, sound-states, minimal-states, fronts-all, inside-all, fronts-before, inside-before}
+use Rattle.minimal.proofs.OneRule.{states-few, does-rule, sound-rule, held-rule}
+use Rattle.minimal.proofs.Ending.{upto, puts-upto, sound-states, minimal-states, fronts-all, inside-all, fronts-before, inside-before, fronts-within, inside-within}
 
 -- a table after some rules: the canonical one that does f
 pub record Good (k d : ℕ) (f : List ℕ → List ℕ) (t : Table) : Type 0 where
@@ -164,7 +164,7 @@ good-canonical k d e f g t u a b = (
 
 -- 002, proposition 5, for the table: as many states as the ended transducer of the rule has that are reached
 one-rule-count : (l : ℕ) (c : Cascade) (r : Rule) (ok : ValidRule l (c .tags) r) (free : before (c .end) (r .pattern) ≡ false) → Spares (c .end) r
-    → (m : ℕ) (some : 0 < m) (few : m ≤ suc (length (r .pattern))) (inside : Inside (c .tags) (upto m (ended (c .end) (oneRule r))))
+    → (m : ℕ) (some : 0 < m) (few : m ≤ states (r .kind) (length (r .pattern))) (inside : Inside (c .tags) (upto m (ended (c .end) (oneRule r))))
     → (fronts : (j : ℕ) → j < m → Without (c .end) (take j (r .pattern))) → length (tableOf (having c (r ∷ []))) ≡ m
 one-rule-count l c r ok free spares m some few inside fronts =
     let k = c .tags in
@@ -181,7 +181,7 @@ one-rule-count l c r ok free spares m some few inside fronts =
     let low = fewest k S (minimal-states l k e r ok free m some few inside fronts) (machine k (shape t) (t-good .doing .sound)) alike some in
     omega arith
 
--- one more than the pattern has tags; as many where it ends with the end tag
+-- of a leftmost rule one more than the pattern has tags, and as many where it ends with the end tag; of an everywhere rule as many
 module _ (l : ℕ) (c : Cascade) (r : Rule) (ok : ValidRule l (c .tags) r) (fits : misused (c .end) r ≡ false) where
   abbrev e : ℕ
   e = c .end
@@ -192,16 +192,25 @@ module _ (l : ℕ) (c : Cascade) (r : Rule) (ok : ValidRule l (c .tags) r) (fits
   free : before e (r .pattern) ≡ false
   free = free-used e r fits
 
-  pub count-other : (getD (r .pattern) (n - 1) 0 ≡ e → ⊥) → length (tableOf (having c (r ∷ []))) ≡ n + 1
-  count-other other =
-      one-rule-count l c r ok free (spares-used e r fits) (suc n) (omega arith) (omega arith)
-      (inside-all l (c .tags) e r ok free other) (fronts-all l (c .tags) e r ok free other)
-      ∙ sym (add-one n)
+  counted : (m : ℕ) → 0 < m → m ≤ states (r .kind) n → Inside (c .tags) (upto m (ended e (oneRule r))) → ((j : ℕ) → j < m → Without e (take j (r .pattern)))
+      → length (tableOf (having c (r ∷ []))) ≡ m
+  counted = one-rule-count l c r ok free (spares-used e r fits)
 
-  pub count-ending : getD (r .pattern) (n - 1) 0 ≡ e → length (tableOf (having c (r ∷ []))) ≡ n
-  count-ending same =
-      one-rule-count l c r ok free (spares-used e r fits) n (omega (arith, ok .place-inside)) (omega arith)
-      (inside-before l (c .tags) e r ok free same) (fronts-before l (c .tags) e r ok free same)
+  pub count-everywhere : r .kind ≡ everywhere → length (tableOf (having c (r ∷ []))) ≡ n
+  count-everywhere kind =
+      counted n (omega (arith, ok .place-inside)) (states-few (r .kind) n .0) (inside-within l (c .tags) e r ok free kind) (fronts-within l (c .tags) e r ok free kind)
+
+  module _ (kind : r .kind ≡ once) where
+    pub count-other : (getD (r .pattern) (n - 1) 0 ≡ e → ⊥) → length (tableOf (having c (r ∷ []))) ≡ n + 1
+    count-other other =
+        let all : states (r .kind) n ≡ suc n = ap (λ (x : Kind). states x n) kind in
+        counted (suc n) (omega arith) (omega arith) (inside-all l (c .tags) e r ok free kind other) (fronts-all l (c .tags) e r ok free kind other)
+        ∙ sym (add-one n)
+
+    pub count-ending : getD (r .pattern) (n - 1) 0 ≡ e → length (tableOf (having c (r ∷ []))) ≡ n
+    count-ending same =
+        counted n (omega (arith, ok .place-inside)) (states-few (r .kind) n .0) (inside-before l (c .tags) e r ok free kind same)
+        (fronts-before l (c .tags) e r ok free kind same)
 
 -- rules are added one at a time: the tables on the way are those of the leading parts
 addAll-append : (k e : ℕ) (t : Table) (rs ss : List Rule) → addAll k e t (rs ++ ss) ≡ addAll k e (addAll k e t rs) ss

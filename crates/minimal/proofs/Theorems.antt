@@ -10,7 +10,7 @@ use mathlib.Core.List.{List, [], _∷_, _++_}
 use lib.ListN.{length, getD}
 use Rattle.words.specs.Word.{Below, Prefix}
 use Rattle.words.proofs.Word.{below-at}
-use Rattle.cascades.specs.Rule.{Rule, ValidRule, Cascade, having, leading, ValidCascade}
+use Rattle.cascades.specs.Rule.{once, everywhere, Rule, ValidRule, Cascade, having, leading, ValidCascade}
 use Rattle.cascades.specs.Rewrite.{behavior}
 use Rattle.cascades.specs.Ending.{misused}
 use Rattle.cascades.specs.Spares.{Spare}
@@ -22,7 +22,7 @@ use Rattle.transducers.specs.Canonical.{Reached, Sound, Held, Canonical}
 use Rattle.transducers.specs.Numbered.{AsReached}
 use Rattle.transducers.specs.Tabulate.{Rows}
 use Rattle.minimal.specs.TableOf.{tableOf}
-use Rattle.minimal.proofs.TableOf.{Good, good, good-smallest, good-ahead, good-more, good-early, good-only, good-canonical, count-other, count-ending, valid-take, spare-take}
+use Rattle.minimal.proofs.TableOf.{Good, good, good-smallest, good-ahead, good-more, good-early, good-only, good-canonical, count-other, count-ending, count-everywhere, valid-take, spare-take}
 
 module _ (l : ℕ) (c : Cascade) (valid : ValidCascade l c) (spare : Spare (c .end) (c .rules)) where
   -- the table turns every sentence into what the book makes of it
@@ -85,18 +85,27 @@ canonical l m c d v s w u k =
     good-canonical (c .tags) ((l - 1) * length (c .rules)) ((m - 1) * length (d .rules)) (behavior c) (behavior d) (tableOf c) (tableOf d)
     (good l c v s) (subst (λ (x : ℕ). Good x ((m - 1) * length (d .rules)) (behavior d) (tableOf d)) (sym k) (good m d w u))
 
--- 002, proposition 5: the table of one rule has one state more than its pattern has tags; and as many as that where the pattern ends with
--- the end tag, for no state is needed behind a whole match (document 02, W1)
-pub one-rule : (l : ℕ) (c : Cascade) (r : Rule) → ValidRule l (c .tags) r → misused (c .end) r ≡ false
+-- 002, proposition 5: the table of one leftmost rule has one state more than its pattern has tags; and as many as that where the pattern ends
+-- with the end tag, for no state is needed behind a whole match (document 02, W1)
+pub one-rule : (l : ℕ) (c : Cascade) (r : Rule) → ValidRule l (c .tags) r → misused (c .end) r ≡ false → r .kind ≡ once
     → (getD (r .pattern) (length (r .pattern) - 1) 0 ≡ c .end → ⊥) → length (tableOf (having c (r ∷ []))) ≡ length (r .pattern) + 1
 one-rule = count-other
 
-pub one-rule-ending : (l : ℕ) (c : Cascade) (r : Rule) → ValidRule l (c .tags) r → misused (c .end) r ≡ false
+pub one-rule-ending : (l : ℕ) (c : Cascade) (r : Rule) → ValidRule l (c .tags) r → misused (c .end) r ≡ false → r .kind ≡ once
     → getD (r .pattern) (length (r .pattern) - 1) 0 ≡ c .end → length (tableOf (having c (r ∷ []))) ≡ length (r .pattern)
 one-rule-ending = count-ending
 
--- with no end tag among the tags, the first
-pub one-rule-alone : (l : ℕ) (c : Cascade) (r : Rule) → c .tags ≤ c .end → ValidRule l (c .tags) r → length (tableOf (having c (r ∷ []))) ≡ length (r .pattern) + 1
-one-rule-alone l c r outside ok =
-    one-rule l c r ok (misused-outside l (c .tags) (c .end) outside r ok)
-    (λ f. omega (arith, f, below-at (c .tags) (r .pattern) (length (r .pattern) - 1) (omega (arith, ok .place-inside)) (ok .pattern-below)))
+-- "Such a rule's smallest table has |u| states": that of an everywhere rule, with and without an end tag (document 02, W4)
+pub one-rule-everywhere : (l : ℕ) (c : Cascade) (r : Rule) → ValidRule l (c .tags) r → misused (c .end) r ≡ false → r .kind ≡ everywhere
+    → length (tableOf (having c (r ∷ []))) ≡ length (r .pattern)
+one-rule-everywhere = count-everywhere
+
+-- with no end tag among the tags, the first and the third
+module _ (l : ℕ) (c : Cascade) (r : Rule) (outside : c .tags ≤ c .end) (ok : ValidRule l (c .tags) r) where
+  pub one-rule-alone : r .kind ≡ once → length (tableOf (having c (r ∷ []))) ≡ length (r .pattern) + 1
+  one-rule-alone kind =
+      one-rule l c r ok (misused-outside l (c .tags) (c .end) outside r ok) kind
+      (λ f. omega (arith, f, below-at (c .tags) (r .pattern) (length (r .pattern) - 1) (omega (arith, ok .place-inside)) (ok .pattern-below)))
+
+  pub one-rule-everywhere-alone : r .kind ≡ everywhere → length (tableOf (having c (r ∷ []))) ≡ length (r .pattern)
+  one-rule-everywhere-alone = one-rule-everywhere l c r ok (misused-outside l (c .tags) (c .end) outside r ok)

@@ -1,3 +1,4 @@
 -- Laws of the rule's transducer, as the code writes it.
 pub mod Next
 pub mod Words
+pub mod Ruled

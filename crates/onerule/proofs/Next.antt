@@ -1,12 +1,12 @@
 -- Where a step leads: one tag of the pattern more, or where the row of the longest border says.
-use Prim.Native.Nat.{ℕ, _+_, _≤_, _<_}
+use Prim.Native.Nat.{ℕ, suc, _+_, _≤_, _<_}
 use native.Mathlib.Omega.{arith}
 use native.Mathlib.Decide.{ℕ-discrete}
 use native.Mathlib.Numerals.{add-one}
 use mathlib.Core.Path.{_≡_, refl, sym, ap, _∙_}
-use mathlib.Core.Bool.{Bool, true, false}
+use mathlib.Core.Bool.{Bool, true, false, _||_}
 use mathlib.Core.List.{List, [], _∷_, _++_}
-use borrow.Author.Tests.{eqb-true}
+use borrow.Author.Tests.{eqb-true, eq-eqb, ne-eqb}
 use lib.Dec.{eqb}
 use lib.ListN.{length, getD, take}
 use lib.Seq.{length-take-le}
@@ -15,26 +15,39 @@ use Rattle.words.proofs.Word.{prefix-front}
 use Rattle.words.proofs.Overlap.{overlap-prefix}
 use Rattle.borders.specs.Border.{border}
 use Rattle.borders.proofs.Border.{overlap-grown, border-le, border-below, grown-none, grown-shorter, grown-longer, grown}
+use Rattle.cascades.specs.Rule.{Kind, once, everywhere, rule}
 use Rattle.cascades.specs.Ending.{before}
-use Rattle.minimal.specs.OneRule.{borders}
-use Rattle.minimal.proofs.Matcher.{moves-after}
+use Rattle.minimal.specs.Matcher.{moves}
+use Rattle.minimal.specs.OneRule.{states, borders}
+use Rattle.minimal.proofs.Matcher.{moves-after, moves-match, moves-on}
 use Rattle.minimal.proofs.OneRule.{borders-move, overlap-step}
 use Rattle.minimal.proofs.Ending.{none-matched}
 use Rattle.workspace.specs.declared.Grid.{Grid}
 use Rattle.workspace.specs.Entries.{NEXT}
 use Rattle.workspace.specs.Cells.{Kept, In-rows}
 use Rattle.workspace.specs.Holds.{Filling}
-use Rattle.onerule.specs.Rule.{rule, goes, afresh, restarts, Behind}
+use Rattle.onerule.specs.Rule.{goes, afresh, restarts, Behind}
+
+module _ (count e a next : ℕ) where
+  pub restarts-end : a ≡ e → 0 ≡ restarts count e a next
+  restarts-end f = cc (eq-eqb a e f)
+
+  module _ (other : a ≡ e → ⊥) where
+    pub restarts-none : next ≡ count → 0 ≡ restarts count e a next
+    restarts-none f = cc (ne-eqb a e other, eq-eqb next count f)
+
+    pub restarts-next : (next ≡ count → ⊥) → next ≡ restarts count e a next
+    restarts-next f = cc (ne-eqb a e other, ne-eqb next count f)
 
 module _ (u : List ℕ) where
   pub goes-is : (j a : ℕ) → j < length u → goes u j a ≡ overlap u (take j u ++ (a ∷ []))
-  goes-is j a h = borders-move u j a h
+  goes-is j a h = borders-move u once j a h (omega (arith, overlap-step u j a h .1))
 
   pub goes-le : (j a : ℕ) → j < length u → goes u j a ≤ j + 1
   goes-le j a h = omega (arith, goes-is j a h, overlap-step u j a h .0)
 
   pub goes-end : (j a : ℕ) → j ≡ length u → j ≡ goes u j a
-  goes-end j a e = sym (moves-after u 0 0 (borders u) j a e)
+  goes-end j a e = sym (moves-after u 0 0 (borders once u) j a e)
 
   pub goes-below : (j a : ℕ) → j ≤ length u → goes u j a ≤ length u
   goes-below j a h = by (ℕ-discrete j (length u))
@@ -60,14 +73,38 @@ module _ (u : List ℕ) where
       goes-grown (border u j) a (omega (arith, border-below u j some (omega arith))) ∙ sym (goes-grown j a h ∙ grown-shorter u a j h other some)
 
   -- an end tag leads to the start anyway where it is not the pattern's last tag that is due
-  restarts-back : (e : ℕ) → before e u ≡ false → (j a : ℕ) → j + 1 < length u → restarts e a (goes u j a) ≡ goes u j a
-  restarts-back e free j a h = by (eqb a e) refl
+  restarts-back : (count e : ℕ) → length u ≤ count → before e u ≡ false → (j a : ℕ) → j + 1 < length u → restarts count e a (goes u j a) ≡ goes u j a
+  restarts-back count e most free j a h =
+      let low : overlap u (take j u ++ (a ∷ [])) < length u = omega (arith, overlap-step u j a (omega arith) .0) in
+      let is = goes-is j a (omega arith) in
+      by low is (ℕ-discrete a e)
     where
-      by : (c : Bool) → eqb a e ≡ c → elim c as (λ x. ℕ) [ true ↦ 0 | false ↦ goes u j a ] ≡ goes u j a
-      by true is =
-          let low : overlap u (take j u ++ (a ∷ [])) < length u = omega (arith, overlap-step u j a (omega arith) .0) in
-          sym (borders-move u j a (omega arith) ∙ none-matched e (rule u 0 0) free j (overlap u (take j u ++ (a ∷ []))) (ap (λ (x : ℕ). overlap u (take j u ++ (x ∷ []))) (sym (eqb-true a e is))) low)
-      by false is = refl
+      by : overlap u (take j u ++ (a ∷ [])) < length u → goes u j a ≡ overlap u (take j u ++ (a ∷ [])) → Dec (a ≡ e) → restarts count e a (goes u j a) ≡ goes u j a
+      by low is (yes f) =
+          sym (restarts-end count e a (goes u j a) f)
+          ∙ sym (is ∙ none-matched e (rule once u 0 0) free j (overlap u (take j u ++ (a ∷ []))) (ap (λ (x : ℕ). overlap u (take j u ++ (x ∷ []))) (sym f)) low)
+      by low is (no d) = sym (restarts-next count e a (goes u j a) d (λ f. omega (arith, f)))
+
+  -- where the rule's transducer goes, by its kind
+  pub restarts-moves : (k : Kind) (e j a : ℕ) → j < states k (length u)
+      → restarts (states k (length u)) e a (goes u j a) ≡ elim (eqb a e) as (λ x. ℕ) [ true ↦ 0 | false ↦ moves (length u) (borders k u) j a ]
+  restarts-moves k e j a h = by (eqb a e)
+    where
+      ends : (k : Kind) → j < states k (length u) → elim (eqb (goes u j a) (states k (length u))) as (λ x. ℕ) [ true ↦ 0 | false ↦ goes u j a ] ≡ moves (length u) (borders k u) j a
+      ends once l = cc (ne-eqb (goes u j a) (suc (length u)) (λ f. omega (arith, f, goes-below j a (omega arith))))
+      ends everywhere l = at (ℕ-discrete (overlap u (take j u ++ (a ∷ []))) (length u))
+        where
+          at : Dec (overlap u (take j u ++ (a ∷ [])) ≡ length u)
+              → elim (eqb (goes u j a) (length u)) as (λ x. ℕ) [ true ↦ 0 | false ↦ goes u j a ] ≡ moves (length u) (borders everywhere u) j a
+          at (yes e) = cc (eq-eqb (goes u j a) (length u) (goes-is j a l ∙ e), moves-match u 0 0 (borders everywhere u) j a l e)
+          at (no d) =
+              let low : overlap u (take j u ++ (a ∷ [])) < length u = omega (arith, overlap-step u j a l .1) in
+              cc (ne-eqb (goes u j a) (length u) (λ f. omega (arith, f, goes-is j a l)), goes-is j a l, moves-on u 0 0 (borders everywhere u) j a l low)
+
+      by : (c : Bool)
+          → _≡_ {A = ℕ} (elim (c || eqb (goes u j a) (states k (length u))) [ true ↦ 0 | false ↦ goes u j a ]) (elim c [ true ↦ 0 | false ↦ moves (length u) (borders k u) j a ])
+      by true = refl
+      by false = ends k h
 
 module _ (g : Grid) (u : List ℕ) (j : ℕ) where
   -- as long as another row changes
@@ -79,14 +116,14 @@ module _ (g : Grid) (u : List ℕ) (j : ℕ) where
       }
 
   -- the rows before j are written
-  pub behind-filling : (W X : List ℕ) (base n p t e b : ℕ) → before e u ≡ false → b ≡ border u j → j ≤ length u → base + j < g .rows
-      → Filling g W X base n (afresh e (rule u p t)) j → Behind g X (base + b) u j × (0 < j → b < j)
-  behind-filling W X base n p t e b free is h room f = (
+  pub behind-filling : (W X : List ℕ) (base n p t e b : ℕ) → length u ≤ n → before e u ≡ false → b ≡ border u j → j ≤ length u → base + j < g .rows
+      → Filling g W X base n (afresh n e u p t) j → Behind g X (base + b) u j × (0 < j → b < j)
+  behind-filling W X base n p t e b most free is h room f = (
     record {
       inside = omega (arith, is, border-le u j h);
       next-is = λ some l a ha.
           let lower = border-below u j some h in
-          f .states b (omega (arith, is)) .steps a ha .next-is ∙ restarts-back u e free b a (omega (arith, is)) ∙ ap (λ (q : ℕ). goes u q a) is;
+          f .states b (omega (arith, is)) .steps a ha .next-is ∙ restarts-back u n e most free b a (omega (arith, is)) ∙ ap (λ (q : ℕ). goes u q a) is;
     },
     λ some. omega (arith, is, border-below u j some h),
   )

@@ -1,49 +1,50 @@
 -- A rule whose transducer is to be written to the work slice.
 use Prim.Native.Nat.{ℕ, _+_, _-_, _≤_, _<_}
 use mathlib.Core.Path.{_≡_}
-use mathlib.Core.Bool.{true, false}
-use mathlib.Core.List.{List}
+use mathlib.Core.Bool.{true, false, _||_}
+use mathlib.Core.List.{List, [], _∷_, _++_}
 use lib.Dec.{eqb}
-use lib.ListN.{length}
+use lib.ListN.{length, take}
+use Rattle.words.specs.Overlap.{overlap}
 use Rattle.words.specs.Pieces.{piecewise}
 use Rattle.borders.specs.Border.{border}
-use Rattle.cascades.specs.Rule.{Rule, ValidRule}
+use Rattle.cascades.specs.Rule.{once, Rule, ValidRule}
 use Rattle.cascades.specs.Rewrite.{apply}
 use Rattle.transducers.specs.Transducer.{Shape}
 use Rattle.transducers.specs.Tabulate.{Any}
-use Rattle.transducers.specs.Ended.{ended}
-use Rattle.minimal.specs.Matcher.{moves}
-use Rattle.minimal.specs.OneRule.{borders, oneRule}
+use Rattle.minimal.specs.Matcher.{held, said, moves}
+use Rattle.minimal.specs.OneRule.{borders}
 use Rattle.workspace.specs.declared.Grid.{Grid}
 use Rattle.workspace.specs.Entries.{NEXT, FINAL}
 use Rattle.workspace.specs.Cells.{at, Sized, Kept, In-rows}
 use Rattle.workspace.specs.Holds.{Stands}
 
-abbrev pub rule : List ℕ → ℕ → ℕ → Rule
-rule u p b = record { pattern = u; place = p; tag = b }
+-- Of a rule with the pattern u, the place p and the new tag t, from the state j on the tag a.
 
--- the rule's transducer from the state j on the tag a: where it goes, by the pattern alone, and what it puts out; and what it holds there
+-- how many tags of u are matched then; all of them where they were before
 abbrev pub goes : List ℕ → ℕ → ℕ → ℕ
-goes u j a = moves (length u) (borders u) j a
+goes u j a = moves (length u) (borders once u) j a
 
-abbrev pub says : Rule → ℕ → ℕ → List ℕ
-says r j a = oneRule r .output j a
+-- what is put out, and what is held in j: the same for both kinds
+abbrev pub says : List ℕ → ℕ → ℕ → ℕ → ℕ → List ℕ
+says u p t j a = said u p t j a (overlap u (take j u ++ (a ∷ [])))
 
-abbrev pub keeps : Rule → ℕ → List ℕ
-keeps r j = oneRule r .final j
+abbrev pub keeps : List ℕ → ℕ → ℕ → List ℕ
+keeps u p j = held u p j
 
--- the transducer that begins afresh after an end tag, and where it goes
-abbrev pub afresh : ℕ → Rule → Shape
-afresh e r = ended e (oneRule r)
+-- the start after an end tag, and where there is no state for what is matched
+abbrev pub restarts : ℕ → ℕ → ℕ → ℕ → ℕ
+restarts count e a next = elim (eqb a e || eqb next count) [ true ↦ 0 | false ↦ next ]
 
-abbrev pub restarts : ℕ → ℕ → ℕ → ℕ
-restarts e a next = elim (eqb a e) [ true ↦ 0 | false ↦ next ]
+-- the states as they are written, so many
+abbrev pub afresh : ℕ → ℕ → List ℕ → ℕ → ℕ → Shape
+afresh count e u p t = record { count = count; next = λ j a. restarts count e a (goes u j a); output = says u p t; final = keeps u p }
 
 -- the place is in the pattern, and the cells have room for the words
-pub record Room (g : Grid) (W : List ℕ) (r : Rule) : Type 0 where
+pub record Room (g : Grid) (W u : List ℕ) (p : ℕ) : Type 0 where
   pub sized : Sized g W
-  pub place-inside : r .place < length (r .pattern)
-  pub deep : length (r .pattern) + FINAL ≤ g .depth
+  pub place-inside : p < length u
+  pub deep : length u + FINAL ≤ g .depth
 
 -- where some tags of u are matched, but not all, the row `back` has the next states of their longest border
 pub record Behind (g : Grid) (W : List ℕ) (back : ℕ) (u : List ℕ) (j : ℕ) : Type 0 where

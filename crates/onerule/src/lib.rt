@@ -1,6 +1,6 @@
 // The transducer of one rule: it does what the rule does, and is the smallest one that does.
-// Time O(k l + w) for k tags, a pattern of l tags and w tags in the words that are written; space is the l + 1 rows of the result, and a
-// number for each prefix.
+// Time O(k l + w) for k tags, a pattern of l tags and w tags in the words that are written; space is the rows of the result, l + 1 or l for
+// an everywhere rule, and a number for each prefix.
 // From 002, definition 2, after Simon's string matching automaton: the states are the prefixes of the pattern, here by their lengths.
 use borders::find_borders;
 use cascades::Rule;
@@ -23,10 +23,11 @@ ghost use lib.ListN.{length};
 ghost use Rattle.borders.specs.Border.{Borders};
 ghost use Rattle.cascades.specs.Value.{ruleOf, Formed};
 ghost use Rattle.cascades.specs.Ending.{before};
+ghost use Rattle.minimal.specs.OneRule.{states};
 ghost use Rattle.workspace.specs.Entries.{OUTPUT, FINAL};
 ghost use Rattle.workspace.specs.Cells.{at, word, Sized, Written, part};
-ghost use Rattle.workspace.specs.Holds.{Stepped, Stepping, Rowed};
-ghost use Rattle.onerule.specs.Rule.{rule, goes, says, keeps, afresh, restarts, Room, Behind, Ruled};
+ghost use Rattle.workspace.specs.Holds.{Stepped, Stepping, Rowed, Filling};
+ghost use Rattle.onerule.specs.Rule.{goes, says, keeps, afresh, restarts, Room, Behind, Ruled};
 
 // The state after the tag a where the first j tags were matched: one tag more, or where the row `back`, that of their longest border, leads.
 fn next_of(work: &[u16], g: Grid, back: usize, u: &[u8], j: usize, a: usize) -> usize
@@ -82,10 +83,10 @@ fn write_output(
     a: usize,
     next: usize,
 )
-    requires { ⌜ Room g (now work) (rule (now u) place tag) ⌝ }
+    requires { ⌜ Room g (now work) (now u) place ⌝ }
     requires { ⌜ (r < g .rows) × (a < g .tags) × (j ≤ length (now u)) ⌝ }
     requires { ⌜ next ≡ goes (now u) j a ⌝ }
-    ensures { λ _. ⌜ Written g (now (work .entry)) (now (work .exit)) r a OUTPUT (says (rule (now (u .entry)) place tag) j a) ⌝ }
+    ensures { λ _. ⌜ Written g (now (work .entry)) (now (work .exit)) r a OUTPUT (says (now (u .entry)) place tag j a) ⌝ }
 {
     clear(work, g, r, a, OUTPUT);
     if j == u.len() {
@@ -105,11 +106,14 @@ fn write_output(
     push(work, g, r, a, OUTPUT, a);
 }
 
-// The state after a tag: the start after an end tag.
-fn restart(next: usize, a: usize, end: usize) -> usize
-    ensures { λ r. ⌜ r ≡ restarts end a next ⌝ }
+// The state after the tag a: the start after an end tag, and after a match where no state lies behind it.
+fn restart(next: usize, a: usize, end: usize, count: usize) -> usize
+    ensures { λ r. ⌜ r ≡ restarts count end a next ⌝ }
 {
-    if a == end { 0 } else { next }
+    if a == end {
+        return 0;
+    }
+    if next == count { 0 } else { next }
 }
 
 fn write_step(
@@ -121,17 +125,18 @@ fn write_step(
     place: usize,
     tag: u8,
     end: usize,
+    count: usize,
     j: usize,
     a: usize,
 )
-    requires { ⌜ Room g (now work) (rule (now u) place tag) ⌝ }
-    requires { ⌜ (r < g .rows) × (a < g .tags) × (j ≤ length (now u)) × (before end (now u) ≡ false) ⌝ }
+    requires { ⌜ Room g (now work) (now u) place ⌝ }
+    requires { ⌜ (r < g .rows) × (a < g .tags) × (j < count) × (count ≤ length (now u) + 1) ⌝ }
     requires { ⌜ Behind g (now work) back (now u) j ⌝ }
-    ensures { λ _. ⌜ Stepped g (now (work .entry)) (now (work .exit)) r a (afresh end (rule (now (u .entry)) place tag) .next j a) (afresh end (rule (now (u .entry)) place tag) .output j a) ⌝ }
+    ensures { λ _. ⌜ Stepped g (now (work .entry)) (now (work .exit)) r a (afresh count end (now (u .entry)) place tag .next j a) (afresh count end (now (u .entry)) place tag .output j a) ⌝ }
 {
     let next = next_of(work, g, back, u, j, a);
     write_output(work, g, r, u, place, tag, j, a, next);
-    put(work, g, r, a, NEXT, restart(next, a, end));
+    put(work, g, r, a, NEXT, restart(next, a, end, count));
 }
 
 fn write_steps(
@@ -143,25 +148,26 @@ fn write_steps(
     place: usize,
     tag: u8,
     end: usize,
+    count: usize,
     j: usize,
 )
-    requires { ⌜ Room g (now work) (rule (now u) place tag) ⌝ }
-    requires { ⌜ (r < g .rows) × (j ≤ length (now u)) × (before end (now u) ≡ false) ⌝ }
+    requires { ⌜ Room g (now work) (now u) place ⌝ }
+    requires { ⌜ (r < g .rows) × (j < count) × (count ≤ length (now u) + 1) ⌝ }
     requires { ⌜ Behind g (now work) back (now u) j × (0 < j → back < r) ⌝ }
-    ensures { λ _. ⌜ Stepping g (now (work .entry)) (now (work .exit)) r (afresh end (rule (now (u .entry)) place tag)) j (g .tags) ⌝ }
+    ensures { λ _. ⌜ Stepping g (now (work .entry)) (now (work .exit)) r (afresh count end (now (u .entry)) place tag) j (g .tags) ⌝ }
 {
     let tags = g.tags;
     let mut a = 0;
     while a < tags {
-        write_step(work, g, r, back, u, place, tag, end, j, a);
+        write_step(work, g, r, back, u, place, tag, end, count, j, a);
         a += 1;
     }
 }
 
 fn write_final(work: &mut [u16], g: Grid, r: usize, u: &[u8], place: usize, tag: u8, j: usize)
-    requires { ⌜ Room g (now work) (rule (now u) place tag) ⌝ }
+    requires { ⌜ Room g (now work) (now u) place ⌝ }
     requires { ⌜ (r < g .rows) × (j ≤ length (now u)) ⌝ }
-    ensures { λ _. ⌜ Written g (now (work .entry)) (now (work .exit)) r (g .tags) FINAL (keeps (rule (now (u .entry)) place tag) j) ⌝ }
+    ensures { λ _. ⌜ Written g (now (work .entry)) (now (work .exit)) r (g .tags) FINAL (keeps (now (u .entry)) place j) ⌝ }
 {
     clear(work, g, r, g.tags, FINAL);
     if j == u.len() {
@@ -180,18 +186,30 @@ fn write_state(
     place: usize,
     tag: u8,
     end: usize,
+    count: usize,
     j: usize,
 )
-    requires { ⌜ Room g (now work) (rule (now u) place tag) ⌝ }
-    requires { ⌜ (base + j < g .rows) × (j ≤ length (now u)) × (before end (now u) ≡ false) ⌝ }
+    requires { ⌜ Room g (now work) (now u) place ⌝ }
+    requires { ⌜ (base + j < g .rows) × (j < count) × (count ≤ length (now u) + 1) ⌝ }
     requires { ⌜ Behind g (now work) (base + border) (now u) j × (0 < j → border < j) ⌝ }
-    ensures { λ _. ⌜ Rowed g (now (work .entry)) (now (work .exit)) (base + j) (afresh end (rule (now (u .entry)) place tag)) j ⌝ }
+    ensures { λ _. ⌜ Rowed g (now (work .entry)) (now (work .exit)) (base + j) (afresh count end (now (u .entry)) place tag) j ⌝ }
 {
-    write_steps(work, g, base + j, base + border, u, place, tag, end, j);
+    write_steps(
+        work,
+        g,
+        base + j,
+        base + border,
+        u,
+        place,
+        tag,
+        end,
+        count,
+        j,
+    );
     write_final(work, g, base + j, u, place, tag, j);
 }
 
-// The states of the rule's transducer to the rows from `base`: their number.
+// The first so many states of the rule's transducer to the rows from `base`.
 fn write_states(
     work: &mut [u16],
     g: Grid,
@@ -201,29 +219,41 @@ fn write_states(
     place: usize,
     tag: u8,
     end: usize,
-) -> usize
-    requires { ⌜ Room g (now work) (rule (now u) place tag) ⌝ }
-    requires { ⌜ (base + (length (now u) + 1) ≤ g .rows) × (before end (now u) ≡ false) ⌝ }
+    count: usize,
+)
+    requires { ⌜ Room g (now work) (now u) place ⌝ }
+    requires { ⌜ (base + count ≤ g .rows) × (length (now u) ≤ count) × (count ≤ length (now u) + 1) × (before end (now u) ≡ false) ⌝ }
     requires { ⌜ Borders (now u) (now borders) ⌝ }
-    ensures { λ count. ⌜ Ruled g (now (work .entry)) (now (work .exit)) base count end (rule (now (u .entry)) place tag) ⌝ }
+    ensures { λ _. ⌜ Filling g (now (work .entry)) (now (work .exit)) base count (afresh count end (now (u .entry)) place tag) count ⌝ }
 {
     let mut j = 0;
-    while j <= u.len() {
-        write_state(work, g, base, borders[j], u, place, tag, end, j);
+    while j < count {
+        write_state(work, g, base, borders[j], u, place, tag, end, count, j);
         j += 1;
     }
-    j
+}
+
+// How many states the rule's transducer has: one behind a whole match, unless it begins again there.
+fn count_states(rule: Rule) -> usize
+    requires { ⌜ Formed rule ⌝ }
+    ensures { λ count. ⌜ count ≡ states (ruleOf rule .kind) (rule .length) ⌝ }
+{
+    if rule.everywhere {
+        return rule.length;
+    }
+    rule.length + 1
 }
 
 // The rule's transducer, which begins afresh after an end tag, to the rows from `base`: the number of its states.
 pub fn write_rule(work: &mut [u16], g: Grid, base: usize, rule: Rule, end: usize) -> usize
     requires { ⌜ Formed rule ⌝ }
-    requires { ⌜ Room g (now work) (ruleOf rule) ⌝ }
+    requires { ⌜ Room g (now work) (ruleOf rule .pattern) (rule .place) ⌝ }
     requires { ⌜ (base + (length (ruleOf rule .pattern) + 1) ≤ g .rows) × (before end (ruleOf rule .pattern) ≡ false) ⌝ }
     ensures { λ count. ⌜ Ruled g (now (work .entry)) (now (work .exit)) base count end (ruleOf rule) ⌝ }
 {
     let row = rule.row;
     let length = rule.length;
+    let count = count_states(rule);
     let mut borders = [0; PATTERN + 1];
     find_borders(&row[..length], &mut borders);
     write_states(
@@ -235,5 +265,7 @@ pub fn write_rule(work: &mut [u16], g: Grid, base: usize, rule: Rule, end: usize
         rule.place,
         rule.tag,
         end,
-    )
+        count,
+    );
+    count
 }

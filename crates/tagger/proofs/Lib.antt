@@ -1,3 +1,4 @@
 -- Laws that the functions' proofs cite.
 pub mod Run
 pub mod Pieces
+pub mod Apply

@@ -3,19 +3,17 @@ use answers::Refusal;
 use answers::RunAnswer;
 use books::BookAnswer;
 use books::HEAD;
-use cascades::Rule;
 use limits::PATTERN;
 use limits::RULES;
 use sentences::Admission;
 ghost use mathlib.Core.Path.{_≡_};
-ghost use Prim.Native.Nat.{_≤_, _<_};
-ghost use mathlib.Core.List.{_++_};
-ghost use lib.ListN.{length, take, drop};
+ghost use Prim.Native.Nat.{_+_, _≤_, _<_};
+ghost use lib.ListN.{length};
 ghost use Rattle.limits.specs.Limits.{no-end};
 ghost use Rattle.words.specs.Pieces.{piecewise};
+ghost use Rattle.words.specs.Parts.{Begun};
 ghost use Rattle.cascades.specs.Rewrite.{apply, applyAll};
-ghost use Rattle.cascades.specs.Value.{ruleOf, Formed};
-ghost use Rattle.books.specs.Arrays.{arrays, rulesOf, cascadeOf};
+ghost use Rattle.books.specs.Arrays.{arrays, ruleAt, rulesOf, cascadeOf};
 ghost use Rattle.endings.specs.Usable.{Usable};
 ghost use Rattle.sentences.specs.Run.{run, Ran};
 ghost use Rattle.sentences.specs.Parts.{Wrote};
@@ -23,15 +21,28 @@ ghost use Rattle.tagger.specs.Run.{bookRun};
 ghost use Rattle.tagger.specs.Rules.{cascadeRun};
 ghost use Rattle.tagger.specs.Pieces.{FirstPiece};
 
-// The rule, applied to s.
-fn apply_rule(s: &mut [u8], rule: Rule)
-    requires { ⌜ Formed rule ⌝ }
-    requires { ⌜ rule .place < rule .length ⌝ }
-    ensures { λ _. ⌜ now (s .exit) ≡ apply (ruleOf rule) (now (s .entry)) ⌝ }
+// The rule i of the arrays, applied to s: its leftmost match gets the new tag; of an everywhere rule, so do those behind it.
+fn apply_rule(
+    s: &mut [u8],
+    rows: &[[u8; PATTERN]; RULES],
+    lengths: &[usize; RULES],
+    heads: &[[u8; HEAD]; RULES],
+    i: usize,
+)
+    requires { ⌜ Usable (i + 1) (arrays rows lengths heads) ⌝ }
+    ensures { λ _. ⌜ now (s .exit) ≡ apply (ruleAt (arrays (rows .entry) (lengths .entry) (heads .entry)) i) (now (s .entry)) ⌝ }
 {
-    let row = rule.row;
-    let n = rule.length;
-    leftmost::rewrite_leftmost(s, &row[..n], rule.place, rule.tag);
+    let row = rows[i];
+    let n = lengths[i];
+    let at = leftmost::find(s, &row[..n]);
+    if at == s.len() {
+        return;
+    }
+    let rule = books::rule_at(rows, lengths, heads, i);
+    s[at + rule.place] = rule.tag;
+    if rule.everywhere {
+        leftmost::rewrite_behind(s, at + n, &row[..n], rule.place, rule.tag);
+    }
 }
 
 // The first m rules of the arrays, applied to s in order.
@@ -47,8 +58,7 @@ fn apply_rules(
 {
     let mut i = 0;
     while i < m {
-        let rule = books::rule_at(rows, lengths, heads, i);
-        apply_rule(s, rule);
+        apply_rule(s, rows, lengths, heads, i);
         i += 1;
     }
 }
@@ -77,7 +87,7 @@ fn apply_first(
     m: usize,
 ) -> usize
     requires { ⌜ Usable m (arrays rows lengths heads) ⌝ }
-    ensures { λ r. ⌜ FirstPiece (now (s .entry)) end r × (now (s .exit) ≡ applyAll (rulesOf (arrays (rows .entry) (lengths .entry) (heads .entry)) m) (take r (now (s .entry))) ++ drop r (now (s .entry))) ⌝ }
+    ensures { λ r. ⌜ Begun (piecewise end (applyAll (rulesOf (arrays (rows .entry) (lengths .entry) (heads .entry)) m))) (piecewise end (applyAll (rulesOf (arrays (rows .entry) (lengths .entry) (heads .entry)) m))) (now (s .entry)) (now (s .exit)) r × (0 < length (now (s .entry)) → 0 < r) ⌝ }
 {
     let n = first_piece(s, end);
     apply_rules(&mut s[..n], rows, lengths, heads, m);

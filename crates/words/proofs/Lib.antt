@@ -4,4 +4,5 @@ pub mod Front
 pub mod Overlap
 pub mod Decides
 pub mod Pieces
+pub mod Parts
 pub mod Regions

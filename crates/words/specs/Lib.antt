@@ -4,3 +4,4 @@ pub mod Front
 pub mod Overlap
 pub mod Decides
 pub mod Pieces
+pub mod Parts

@@ -1,4 +1,4 @@
--- `books::open_rule` meets its contract: each return is a case of the definition at 21.
+-- `books::open_rule` meets its contract: each return is a case of the definition at 21 and 24.
 use native.Mathlib.Omega.{arith}
 use borrow.Author.Needs.{needs}
 use Prim.Native.Nat.{_+_, _-_}
@@ -34,7 +34,7 @@ returns : tie.Need-returns
 returns c =
     let st = c .before .before .before .before .before .before in
     resumes-refused (st .args .s .now) (entry st) (st .args .at + 1 + 1 + 1) (arrays st) (st .pre .0) (c .refused .result) (c .before .before .closing-fault .result) (st .args .at) (c .refused .ensures)
-    (rule-fault (st .args .s .now) (st .args .k) (st .args .m) (arrays st) (st .args .at) (st .pre .1 .1) (st .pre .1 .2) (c .before .before .closing-fault .result) (c .before .before .closing-fault .ensures) (search needs))
+    (rule-fault (st .args .s .now) (st .args .k) (st .args .m) (arrays st) (st .args .at) (st .pre .1 .1) (st .pre .1 .2 .0) (st .pre .1 .2 .1) (c .before .before .closing-fault .result) (c .before .before .closing-fault .ensures) (search needs))
 
 refused-requires-2 : tie.Need-refused-requires-2
 refused-requires-2 c κs = search needs
@@ -43,7 +43,7 @@ returns-2 : tie.Need-returns-2
 returns-2 c =
     let st = c .before .before .before .before .before .before .before in
     resumes-refused (st .args .s .now) (entry st) (st .args .at + 1 + 1 + 1) (arrays st) (st .pre .0) (c .refused2 .result) 7 (st .args .at) (c .refused2 .ensures)
-    (rule-seventeenth (st .args .s .now) (st .args .k) (st .args .m) (arrays st) (st .args .at) (st .pre .1 .1) (st .pre .1 .2) (c .before .before .before .closing-fault .ensures ∙ ap faulted (c .before .before .if1 .left)) (omega arith))
+    (rule-seventeenth (st .args .s .now) (st .args .k) (st .args .m) (arrays st) (st .args .at) (st .pre .1 .1) (st .pre .1 .2 .0) (st .pre .1 .2 .1) (c .before .before .before .closing-fault .ensures ∙ ap faulted (c .before .before .if1 .left)) (omega arith))
 
 add-first : tie.Need-add-first
 add-first c = search needs
@@ -55,7 +55,7 @@ returns-3 : tie.Need-returns-3
 returns-3 c =
     let st = c .before .before .before .before .before .before .before .before in
     resumes-refused (st .args .s .now) (entry st) (st .args .at + 1 + 1 + 1) (arrays st) (st .pre .0) (c .refused3 .result) 1 (st .args .at + 1) (c .refused3 .ensures)
-    (rule-no-place (st .args .s .now) (st .args .k) (st .args .m) (arrays st) (st .args .at) (st .pre .1 .1) (st .pre .1 .2) (c .before .before .before .before .closing-fault .ensures ∙ ap faulted (c .before .before .before .if1 .left)) (omega arith) (omega arith))
+    (rule-no-place (st .args .s .now) (st .args .k) (st .args .m) (arrays st) (st .args .at) (st .pre .1 .1) (st .pre .1 .2 .0) (st .pre .1 .2 .1) (c .before .before .before .before .closing-fault .ensures ∙ ap faulted (c .before .before .before .if1 .left)) (omega arith) (omega arith))
 
 add-second : tie.Need-add-second
 add-second c = search needs
@@ -67,7 +67,7 @@ returns-4 : tie.Need-returns-4
 returns-4 c =
     let st = c .before .before .before .before .before .before .before .before .before in
     resumes-refused (st .args .s .now) (entry st) (st .args .at + 1 + 1 + 1) (arrays st) (st .pre .0) (c .refused4 .result) 1 (st .args .at + 1 + 1) (c .refused4 .ensures)
-    (rule-no-tag (st .args .s .now) (st .args .k) (st .args .m) (arrays st) (st .args .at) (st .pre .1 .1) (st .pre .1 .2) (c .before .before .before .before .before .closing-fault .ensures ∙ ap faulted (c .before .before .before .before .if1 .left)) (omega arith) (omega arith))
+    (rule-no-tag (st .args .s .now) (st .args .k) (st .args .m) (arrays st) (st .args .at) (st .pre .1 .1) (st .pre .1 .2 .0) (st .pre .1 .2 .1) (c .before .before .before .before .before .closing-fault .ensures ∙ ap faulted (c .before .before .before .before .if1 .left)) (omega arith) (omega arith))
 
 shared-slice-read-tag : tie.Need-shared-slice-read-tag
 shared-slice-read-tag c = search needs
@@ -79,7 +79,7 @@ returns-5 : tie.Need-returns-5
 returns-5 c =
     let st = c .before .before .before .before .before .before .before .before .before .before .before in
     resumes-refused (st .args .s .now) (entry st) (st .args .at + 1 + 1 + 1) (arrays st) (st .pre .0) (c .refused5 .result) 4 (st .args .at + 1 + 1) (c .refused5 .ensures)
-    (rule-high (st .args .s .now) (st .args .k) (st .args .m) (arrays st) (st .args .at) (st .pre .1 .1) (st .pre .1 .2) (c .before .before .before .before .before .before .before .closing-fault .ensures ∙ ap faulted (c .before .before .before .before .before .before .if1 .left)) (omega arith) (omega arith) (omega arith))
+    (rule-high (st .args .s .now) (st .args .k) (st .args .m) (arrays st) (st .args .at) (st .pre .1 .1) (st .pre .1 .2 .0) (st .pre .1 .2 .1) (c .before .before .before .before .before .before .before .closing-fault .ensures ∙ ap faulted (c .before .before .before .before .before .before .if1 .left)) (omega arith) (omega arith) (omega arith))
 
 mul-lengths : tie.Need-mul-lengths
 mul-lengths c = search needs
@@ -89,6 +89,9 @@ element-write-lengths c = search needs
 
 shared-slice-read-t17 : tie.Need-shared-slice-read-t17
 shared-slice-read-t17 c = search needs
+
+shared-slice-read-t22 : tie.Need-shared-slice-read-t22
+shared-slice-read-t22 c = search needs
 
 mul-t15 : tie.Need-mul-t15
 mul-t15 c = search needs
@@ -101,13 +104,14 @@ add-t15 c = search needs
 
 returns-6 : tie.Need-returns-6
 returns-6 c =
-    let st = c .before .before .before .before .before .before .before .before .before .before .before in
+    let st = c .before .before .before .before .before .before .before .before .before .before .before .before in
     let place = getD (st .args .s .now) (st .args .at + 1) 0 in
     let tag = getD (st .args .s .now) (st .args .at + 1 + 1) 0 in
-    let after = opened-arrays (arrays st) (st .args .m) place tag in
+    let command = getD (st .args .s .now) (st .args .at) 0 in
+    let after = opened-arrays (arrays st) (st .args .m) place tag command in
     resumes-book (st .args .s .now) (entry st) (st .args .at + 1 + 1 + 1) after
-    (opened-shaped (arrays st) (st .pre .0) (st .args .m) (omega arith) place tag) (st .args .k) (st .args .m + 1) (omega arith) (omega arith)
-    (rule-opened (st .args .s .now) (st .args .k) (st .args .m) (arrays st) (st .args .at) (st .pre .1 .1) (st .pre .1 .2) (c .before .before .before .before .before .before .before .closing-fault .ensures ∙ ap faulted (c .before .before .before .before .before .before .if1 .left)) (omega arith) (st .pre .0) (omega arith) (omega arith))
+    (opened-shaped (arrays st) (st .pre .0) (st .args .m) (omega arith) place tag command) (st .args .k) (st .args .m + 1) (omega arith) (omega arith)
+    (rule-opened (st .args .s .now) (st .args .k) (st .args .m) (arrays st) (st .args .at) (st .pre .1 .1) (st .pre .1 .2 .0) (st .pre .1 .2 .1) (c .before .before .before .before .before .before .before .before .closing-fault .ensures ∙ ap faulted (c .before .before .before .before .before .before .before .if1 .left)) (omega arith) (st .pre .0) (omega arith) (omega arith))
 
 pub open-rule-spec : {M : Type 1} → statement M
 open-rule-spec =
@@ -130,6 +134,7 @@ open-rule-spec =
     mul-lengths
     element-write-lengths
     shared-slice-read-t17
+    shared-slice-read-t22
     mul-t15
     element-set-from-heads
     add-t15

@@ -1,10 +1,14 @@
 -- `books::read_rule` meets its contract.
 use Prim.Native.Nat.{_+_}
+use mathlib.Core.Logic.{inl, inr}
+use borrow.Author.Needs.{needs}
+use borrow.Author.Tests.{eqb-true, eqb-false}
+use lib.ListN.{getD}
+use Rattle.cascades.specs.Rule.{once, everywhere}
 use Rattle.books.specs.Arrays.{holding}
 use Rattle.books.specs.Resume.{readCommands}
 use Rattle.books.proofs.Commands.{command-unknown}
 use Rattle.books.proofs.Resume.{resumes-refused}
-use borrow.Author.Needs.{needs}
 use Rattle.books.proofs.read_rule.Statement.{statement}
 use Rattle.books.proofs.read_rule.Tie as tie
 use Rattle.books.proofs.read_rule.Reads as reads
@@ -12,11 +16,20 @@ use Rattle.books.proofs.read_rule.Lts as lts
 use Rattle.books.proofs.open_rule.Reads as open-rule-reads
 use Rattle.books.proofs.refused.Reads as refused-reads
 
-shared-slice-read-if1 : tie.Need-shared-slice-read-if1
-shared-slice-read-if1 c = search needs
+shared-slice-read-command : tie.Need-shared-slice-read-command
+shared-slice-read-command c = search needs
 
 open-rule-requires : tie.Need-open-rule-requires
-open-rule-requires c κs = search needs
+open-rule-requires c κs =
+    let st = c .before .before .before .before .before in
+    let command = getD (st .args .s .now) (st .args .at) 0 in (
+      st .pre .0,
+      (
+        st .pre .1 .0,
+        st .pre .1 .1,
+        elim (c .before .before .if1 .came) [ inl is ↦ (once, is .taken) | inr is ↦ (everywhere, eqb-true command 0x24 (is .1 .taken)) ],
+      ),
+    )
 
 returns : tie.Need-returns
 returns c = search needs
@@ -26,14 +39,14 @@ refused-requires c κs = search needs
 
 returns-2 : tie.Need-returns-2
 returns-2 c =
-    let st = c .before .before .before .before in
+    let st = c .before .before .before .before .before in
     let s = st .args .s .now in
     let a = holding (st .args .rows .now) (st .args .lengths .now) (st .args .heads .now) in
     let from = readCommands s (st .args .k) (st .args .m) a (st .args .at) in
     resumes-refused s from (st .args .at + 1 + 1 + 1) a (st .pre .0) (c .refused .result) 1 (st .args .at) (c .refused .ensures)
-    (command-unknown s (st .args .k) (st .args .m) a (st .args .at) (st .pre .1 .1) (st .pre .1 .2) (search needs) (st .pre .1 .3))
+    (command-unknown s (st .args .k) (st .args .m) a (st .args .at) (st .pre .1 .1) (st .pre .1 .2) (c .before .before .if1 .left) (eqb-false (getD s (st .args .at) 0) 0x24 (c .before .if2 .left)) (st .pre .1 .3))
 
 pub read-rule-spec : {M : Type 1} → statement M
 read-rule-spec =
     tie.close
-    (tie.spec shared-slice-read-if1 open-rule-requires returns refused-requires returns-2)
+    (tie.spec shared-slice-read-command open-rule-requires returns refused-requires returns-2)

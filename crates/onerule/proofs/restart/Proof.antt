@@ -1,21 +1,18 @@
 -- `onerule::restart` meets its contract.
-use mathlib.Core.Path.{sym, ap}
-use mathlib.Core.Bool.{Bool, true, false}
-use Prim.Native.Nat.{ℕ}
-use borrow.Author.Tests.{eq-eqb, ne-eqb}
+use Rattle.onerule.proofs.Next.{restarts-end, restarts-none, restarts-next}
 use Rattle.onerule.proofs.restart.Statement.{statement}
 use Rattle.onerule.proofs.restart.Tie as tie
 use Rattle.onerule.proofs.restart.Reads as reads
 use Rattle.onerule.proofs.restart.Lts as lts
 
-abbrev by : ℕ → Bool → ℕ
-by next t = elim t [ true ↦ 0 | false ↦ next ]
-
 returns : tie.Need-returns
-returns c = let a = c .before .args in ap (by (a .next)) (sym (eq-eqb (a .a) (a .end) (c .if1 .taken)))
+returns c = let a = c .before .args in restarts-end (a .count) (a .end) (a .a) (a .next) (c .if1 .taken)
 
 returns-2 : tie.Need-returns-2
-returns-2 c = let a = c .before .args in ap (by (a .next)) (sym (ne-eqb (a .a) (a .end) (c .if1 .left)))
+returns-2 c = let a = c .before .before .args in restarts-none (a .count) (a .end) (a .a) (a .next) (c .before .if1 .left) (c .if2 .taken)
+
+returns-3 : tie.Need-returns-3
+returns-3 c = let a = c .before .before .args in restarts-next (a .count) (a .end) (a .a) (a .next) (c .before .if1 .left) (c .if2 .left)
 
 pub restart-spec : {M : Type 1} → statement M
-restart-spec = tie.close (tie.spec returns returns-2)
+restart-spec = tie.close (tie.spec returns returns-2 returns-3)

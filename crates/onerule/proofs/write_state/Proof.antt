@@ -1,6 +1,6 @@
 use Rattle.onerule.proofs.Words.{roomy-afresh}
 use Rattle.workspace.proofs.Holds.{stepping-end}
-use Rattle.onerule.specs.Rule.{rule, afresh}
+use Rattle.onerule.specs.Rule.{afresh}
 use native.Mathlib.Omega.{arith}
 use Prim.Native.Nat.{_+_}
 use borrow.Author.Needs.{needs}
@@ -33,8 +33,8 @@ same-length c = search needs
 
 returns : tie.Need-returns
 returns c = let st = c .before .before .before .before .before .before .before .before .before .before in let a = st .args in
-    stepping-end (a .g) (a .base + a .j) (afresh (a .end) (rule (a .u .now) (a .place) (a .tag))) (a .j) (omega arith)
-    (roomy-afresh (a .u .now) (a .place) (a .tag) (a .end) (st .pre .1 .0 .2) (a .g) (st .pre .0 .place-inside) (st .pre .0 .deep)) _ _ _ (c .before .before .before .before .before .before .write-steps .ensures) (c .before .before .write-final .ensures)
+    stepping-end (a .g) (a .base + a .j) (afresh (a .count) (a .end) (a .u .now) (a .place) (a .tag)) (a .j) (omega arith)
+    (roomy-afresh (a .u .now) (a .place) (a .tag) (a .g) (a .count) (a .end) (omega arith) (st .pre .0 .place-inside) (st .pre .0 .deep)) _ _ _ (c .before .before .before .before .before .before .write-steps .ensures) (c .before .before .write-final .ensures)
 
 pub write-state-spec : {M : Type 1} → statement M
 write-state-spec =

@@ -1,5 +1,5 @@
 -- `onerule::write_step` meets its contract.
-use Rattle.onerule.proofs.Words.{restarts-below, roomy-rule, output-afresh}
+use Rattle.onerule.proofs.Words.{restarts-below, roomy-afresh}
 use Rattle.workspace.specs.declared.Grid.{Grid}
 use Rattle.onerule.specs.Rule.{restarts}
 use Rattle.workspace.specs.Holds.{Stepped}
@@ -18,9 +18,9 @@ use Rattle.onerule.proofs.restart.Reads as restart-reads
 use Rattle.onerule.proofs.write_output.Reads as write-output-reads
 use Rattle.workspace.proofs.put.Reads as put-reads
 
--- another way to say the same step
-stepped-as : {g : Grid} {W X : List ℕ} {r a n m : ℕ} {v w : List ℕ} → n ≡ m → v ≡ w → Stepped g W X r a n v → Stepped g W X r a m w
-stepped-as {g} {W} {X} {r} {a} {n} {m} {v} {w} e f h = subst (λ (l : List ℕ). Stepped g W X r a m l) f (subst (λ (q : ℕ). Stepped g W X r a q v) e h)
+-- another way to say the same next state
+stepped-as : {g : Grid} {W X : List ℕ} {r a n m : ℕ} {v : List ℕ} → n ≡ m → Stepped g W X r a n v → Stepped g W X r a m v
+stepped-as {g} {W} {X} {r} {a} {n} {m} {v} e h = subst (λ (q : ℕ). Stepped g W X r a q v) e h
 
 next-of-requires : tie.Need-next-of-requires
 next-of-requires c κs = let st = c .before .before .before in (st .pre .0 .sized, (st .pre .1 .1, (omega (arith, st .pre .0 .deep), omega arith, omega arith)))
@@ -32,8 +32,8 @@ put-requires : tie.Need-put-requires
 put-requires c κs =
     let st = c .before .before .before .before .before .before .before .before .before .before in
     let a = st .args in
-    let next = c .restart .ensures ∙ ap (restarts (a .end) (a .a)) (c .before .before .before .before .before .before .next-of .ensures) in
-    omega (arith, c .before .before .before .before .write-output .ensures .kept .long, next, restarts-below (a .u .now) (a .place) (a .tag) (a .end) (st .pre .1 .0 .3) (a .j) (a .a) (omega arith))
+    let next = c .restart .ensures ∙ ap (restarts (a .count) (a .end) (a .a)) (c .before .before .before .before .before .before .next-of .ensures) in
+    omega (arith, c .before .before .before .before .write-output .ensures .kept .long, next, restarts-below (a .u .now) (a .place) (a .tag) (a .count) (a .end) (a .j) (a .a) (omega arith))
 
 write-output-requires : tie.Need-write-output-requires
 write-output-requires c κs = search needs
@@ -45,9 +45,9 @@ returns : tie.Need-returns
 returns c =
     let st = c .before .before .before .before .before .before .before .before .before .before .before .before .before in
     let a = st .args in
-    let next = c .before .before .before .restart .ensures ∙ ap (restarts (a .end) (a .a)) (c .before .before .before .before .before .before .before .before .before .next-of .ensures) in
-    let roomy = roomy-rule (a .u .now) (a .place) (a .tag) (a .g) (st .pre .0 .place-inside) (st .pre .0 .deep) in
-    stepped-as next (output-afresh (a .u .now) (a .place) (a .tag) (a .end) (st .pre .1 .0 .3) (a .j) (a .a) (omega arith))
+    let next = c .before .before .before .restart .ensures ∙ ap (restarts (a .count) (a .end) (a .a)) (c .before .before .before .before .before .before .before .before .before .next-of .ensures) in
+    let roomy = roomy-afresh (a .u .now) (a .place) (a .tag) (a .g) (a .count) (a .end) (omega arith) (st .pre .0 .place-inside) (st .pre .0 .deep) in
+    stepped-as next
     (stepped-after (a .g) _ _ _ _ _ _ _ (omega arith) (omega (arith, roomy .outputs (a .j) (a .a) (omega arith) (omega arith))) (c .before .before .before .before .before .before .before .write-output .ensures) (c .before .before .put .ensures))
 
 pub write-step-spec : {M : Type 1} → statement M

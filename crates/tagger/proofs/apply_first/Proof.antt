@@ -6,6 +6,10 @@ use borrow.Author.Needs.{needs}
 use lib.ListN.{drop}
 use lib.Seq.{length-take-le}
 use Prim.Native.Nat.{ℕ}
+use Rattle.cascades.specs.Rewrite.{applyAll}
+use Rattle.cascades.proofs.Rewrite.{applyAll-long}
+use Rattle.books.specs.Arrays.{holding, rulesOf}
+use Rattle.tagger.proofs.Pieces.{begun-piece}
 use Rattle.tagger.proofs.apply_first.Statement.{statement}
 use Rattle.tagger.proofs.apply_first.Tie as tie
 use Rattle.tagger.proofs.apply_first.Reads as reads
@@ -34,8 +38,9 @@ returns : tie.Need-returns
 returns c =
     let x = c .before .before .apply-rules in
     let p = c .before .before .before .before .first-piece in
-    let s = c .before .before .before .before .before .before .before .args .s .now in
-    (p .ensures, ap (λ (l : List ℕ). l ++ drop (p .result) s) (x .ensures))
+    let a = c .before .before .before .before .before .before .before .args in
+    let rs = rulesOf (holding (a .rows .now) (a .lengths .now) (a .heads .now)) (a .m) in
+    (begun-piece (a .end) (applyAll rs) (applyAll-long rs) (a .s .now) _ (p .result) (p .ensures) (ap (λ (l : List ℕ). l ++ drop (p .result) (a .s .now)) (x .ensures)), p .ensures .some)
 
 pub apply-first-spec : {M : Type 1} → statement M
 apply-first-spec =

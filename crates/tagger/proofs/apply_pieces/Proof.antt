@@ -6,32 +6,33 @@ use mathlib.Core.List.{List, _++_}
 use borrow.Author.Needs.{needs}
 use lib.ListN.{length, take, drop}
 use Rattle.words.specs.Pieces.{piecewise}
+use Rattle.words.specs.Parts.{Begun}
+use Rattle.words.proofs.Parts.{lent-long, begun-start, begun-next, begun-all}
 use Rattle.cascades.specs.Rewrite.{applyAll}
 use Rattle.cascades.proofs.Rewrite.{applyAll-long}
 use Rattle.books.specs.Arrays.{holding, rulesOf}
-use Rattle.tagger.proofs.Pieces.{rest-long, next-long, next-inside, next-some, next-cut, cut-all}
+use Rattle.tagger.proofs.Pieces.{piecewise-nothing}
 use Rattle.tagger.proofs.apply_pieces.Statement.{statement}
 use Rattle.tagger.proofs.apply_pieces.Tie as tie
 use Rattle.tagger.proofs.apply_pieces.Reads as reads
 use Rattle.tagger.proofs.apply_pieces.Lts as lts
 use Rattle.tagger.proofs.apply_first.Reads as apply-first-reads
 
+-- what the rules make of each piece
+abbrev making : List (List ℕ) → List ℕ → List (List ℕ) → ℕ → ℕ → List ℕ → List ℕ
+making rows lengths heads m end = piecewise end (applyAll (rulesOf (holding rows lengths heads) m))
+
 abbrev Inv-loop : tie.InvT-loop
-Inv-loop s₀ end rows lengths heads m from₀ s from =
-    (from ≤ length s) × (length s ≡ length s₀)
-    × (piecewise end (applyAll (rulesOf (holding rows lengths heads) m)) s₀ ≡ take from s ++ piecewise end (applyAll (rulesOf (holding rows lengths heads) m)) (drop from s))
+Inv-loop s₀ end rows lengths heads m from₀ s from = Begun (making rows lengths heads m end) (making rows lengths heads m end) s₀ s from
 
 abbrev μ-loop : tie.MeasureT-loop
 μ-loop s₀ end rows lengths heads m from₀ s from = length s - from
 
-abbrev rules : tie.Start Inv-loop μ-loop → List ℕ → List ℕ
-rules st = applyAll (rulesOf (holding (st .args .rows .now) (st .args .lengths .now) (st .args .heads .now)) (st .args .m))
-
-rules-long : (st : tie.Start Inv-loop μ-loop) (w : List ℕ) → length (rules st w) ≡ length w
-rules-long st w = applyAll-long (rulesOf (holding (st .args .rows .now) (st .args .lengths .now) (st .args .heads .now)) (st .args .m)) w
+abbrev made : tie.Start Inv-loop μ-loop → List ℕ → List ℕ
+made st = making (st .args .rows .now) (st .args .lengths .now) (st .args .heads .now) (st .args .m) (st .args .end)
 
 loop-holds : tie.Need-loop-holds Inv-loop μ-loop
-loop-holds c = (omega arith, refl, refl)
+loop-holds c = let st = c .before in begun-start (made st) (st .args .s .now)
 
 sub-apply-first : tie.Need-sub-apply-first Inv-loop μ-loop
 sub-apply-first c = search needs
@@ -49,41 +50,32 @@ add-from : tie.Need-add-from Inv-loop μ-loop
 add-from c =
     let l = c .before .before .before .before .before .loop in
     let p = c .before .before .apply-first in
-    omega (arith, l .inv .0, rest-long (l .s) (l .from) (l .inv .0), p .ensures .0 .inside)
+    omega (arith, l .inv .inside, lent-long (l .s) (l .from) (l .inv .inside), p .ensures .0 .inside, p .ensures .0 .long)
 
 loop-less : tie.Need-loop-less Inv-loop μ-loop
 loop-less c =
+    let st = c .before .before .before .before .before .before .before in
     let l = c .before .before .before .before .before .loop in
     let p = c .before .before .apply-first in
-    let F = rules (c .before .before .before .before .before .before .before) in
-    let long = rules-long (c .before .before .before .before .before .before .before) in
-    let end = c .before .before .before .before .before .before .before .args .end in
-    omega (
-      arith,
-      next-long end F long (l .s) (l .s) (p .last .0) (l .from) (p .result) (l .inv .0) (p .ensures .0) (p .ensures .1),
-      next-inside end F long (l .s) (l .s) (p .last .0) (l .from) (p .result) (l .inv .0) (p .ensures .0) (p .ensures .1),
-      next-some end F long (l .s) (l .s) (p .last .0) (l .from) (p .result) (l .inv .0) (p .ensures .0) (p .ensures .1) (omega arith),
-    )
+    let next = begun-next (made st) (st .args .s .now) (l .s) (p .last .0) (l .from) (p .result) (l .inv) (p .ensures .0) in
+    omega (arith, next .inside, next .long, l .inv .long, p .ensures .1 (omega (arith, lent-long (l .s) (l .from) (l .inv .inside))))
 
 loop-again : tie.Need-loop-again Inv-loop μ-loop
 loop-again c =
     let st = c .before .before .before .before .before .before .before in
     let l = c .before .before .before .before .before .loop in
     let p = c .before .before .apply-first in
-    let end = st .args .end in (
-      next-inside end (rules st) (rules-long st) (st .args .s .now) (l .s) (p .last .0) (l .from) (p .result) (l .inv .0) (p .ensures .0) (p .ensures .1),
-      next-long end (rules st) (rules-long st) (st .args .s .now) (l .s) (p .last .0) (l .from) (p .result) (l .inv .0) (p .ensures .0) (p .ensures .1) ∙ l .inv .1,
-      next-cut end (rules st) (rules-long st) (st .args .s .now) (l .s) (p .last .0) (l .from) (p .result) (l .inv .0) (p .ensures .0) (p .ensures .1) (l .inv .2),
-    )
+    begun-next (made st) (st .args .s .now) (l .s) (p .last .0) (l .from) (p .result) (l .inv) (p .ensures .0)
 
 same-length : tie.Need-same-length Inv-loop μ-loop
-same-length c = search needs
+same-length c = c .before .loop .inv .long
 
 returns : tie.Need-returns Inv-loop μ-loop
 returns c =
     let st = c .before .before .before in
     let l = c .before .loop in
-    cut-all (st .args .end) (rules st) (rules-long st) (st .args .s .now) (l .s) (l .from) (omega (arith, l .inv .0)) (l .inv .2)
+    let rs = rulesOf (holding (st .args .rows .now) (st .args .lengths .now) (st .args .heads .now)) (st .args .m) in
+    begun-all (made st) (st .args .s .now) (l .s) (l .from) (piecewise-nothing (st .args .end) (applyAll rs) (applyAll-long rs)) (omega (arith, l .inv .inside)) (l .inv)
 
 pub apply-pieces-spec : {M : Type 1} → statement M
 apply-pieces-spec =
