@@ -4,7 +4,7 @@
 #include <stdlib.h>
 #include <string.h>
 
-enum { LONGEST_ACCESS = 48, MOST_TAILS = 1 << 14, LONGEST_TRIED = LONGEST_ACCESS + 16, VIEW_BYTES = 1 << 18 };
+enum { LONGEST_ACCESS = 48, MOST_TAILS = 1 << 15, LONGEST_TRIED = LONGEST_ACCESS + 16, VIEW_BYTES = 1 << 19 };
 
 /* A word with its P, the common front of what the book makes of it with any tail, and what is left after P for each tail. */
 struct view {
@@ -13,17 +13,24 @@ struct view {
     uint8_t *residual;
 };
 
+/* The first match in the word; everywhere: then the word behind the match. */
+static void rewrite_word(const struct made_rule *rule, uint8_t *word, size_t length)
+{
+    size_t behind = rule->length;
+
+    while (behind <= length && memcmp(word + behind - rule->length, rule->pattern, rule->length) != 0)
+        behind++;
+    if (behind > length)
+        return;
+    word[behind - rule->length + rule->place] = rule->new_tag;
+    if (rule->everywhere)
+        rewrite_word(rule, word + behind, length - behind);
+}
+
 static void rewrite_piece(const struct made_book *book, uint8_t *word, size_t length)
 {
-    for (size_t i = 0; i < book->rules; i++) {
-        const struct made_rule *rule = &book->rule[i];
-        for (size_t at = 0; at + rule->length <= length; at++) {
-            if (memcmp(word + at, rule->pattern, rule->length) == 0) {
-                word[at + rule->place] = rule->new_tag;
-                break;
-            }
-        }
-    }
+    for (size_t i = 0; i < book->rules; i++)
+        rewrite_word(&book->rule[i], word, length);
 }
 
 void brute_rewrite(const struct made_book *book, unsigned end, uint8_t *word, size_t length)
@@ -130,7 +137,8 @@ static void make_room(struct view *view)
     }
 }
 
-size_t brute_table(const struct made_book *book, unsigned end, size_t depth, uint8_t *bytes)
+/* From tails of at most this depth, as a table's bytes; 0 where it has more than BRUTE_STATES states. */
+static size_t table_at(const struct made_book *book, unsigned end, size_t depth, uint8_t *bytes)
 {
     static struct view view[BRUTE_STATES + 1];
     size_t states = 1;
@@ -162,4 +170,23 @@ size_t brute_table(const struct made_book *book, unsigned end, size_t depth, uin
     bytes[2] = (uint8_t)(states / 256);
     bytes[3] = (uint8_t)(states % 256);
     return (size_t)(to - bytes);
+}
+
+/* Words that tails tell apart lead to different states of every transducer, so that no table is smaller than one found at some depth.
+   Where all rules fire once, the sum of the pattern lengths was deep enough for all books of several small shapes, and one less was
+   not; where some fire everywhere, it sometimes took as much more as there are further rules. One more than either is tried. */
+int brute_finds(const struct made_book *book, unsigned end, const uint8_t *table, size_t table_len)
+{
+    static uint8_t tried[BRUTE_BYTES];
+    size_t depth = 1, deepest;
+
+    for (size_t i = 0; i < book->rules; i++)
+        depth += book->rule[i].length;
+    deepest = depth + (book->rules > 1 ? book->rules - 1u : 0u);
+    for (; depth <= deepest; depth++) {
+        size_t length = table_at(book, end, depth, tried);
+        if (length == table_len && (length == 0 || memcmp(tried, table, length) == 0))
+            return 1;
+    }
+    return 0;
 }

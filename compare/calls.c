@@ -120,6 +120,11 @@ void start_calls(uint64_t seed)
         signal(caught[i], on_signal);
 }
 
+size_t states_of(const uint8_t *table)
+{
+    return (size_t)table[2] * 256 + table[3];
+}
+
 size_t work_entries(size_t ceiling, size_t tags, size_t rules)
 {
     return 16 * ceiling * (tags + 1) * (5 * rules + 8);
@@ -171,7 +176,7 @@ static void count_answer(void)
         ten_at[now.ceiling]++;
     if (refusal != 0)
         return;
-    for (size_t states = (size_t)last_out[2] * 256 + last_out[3]; states > 1; states /= 2)
+    for (size_t states = states_of(last_out); states > 1; states /= 2)
         size++;
     tables_by_size[size]++;
     longest_table = now.answer >> 8 > longest_table ? now.answer >> 8 : longest_table;
@@ -200,8 +205,8 @@ static size_t rules_in(const uint8_t *valid_book)
 {
     size_t rules = 0;
 
-    for (size_t i = 2; valid_book[i] != 0x00; i += valid_book[i] == 0x21 ? 3 : 2)
-        rules += valid_book[i] == 0x21;
+    for (size_t i = 2; valid_book[i] != 0x00; i += valid_book[i] == 0x22 ? 2 : 3)
+        rules += valid_book[i] != 0x22;
     return rules;
 }
 

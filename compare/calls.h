@@ -48,6 +48,8 @@ uint64_t compare_run_loaded(const uint32_t *loaded, size_t loaded_len, const uin
 uint64_t compare_typed(enum call call, const uint8_t *table, size_t table_len, struct nedzsuka_sentence *sentence, unsigned tag,
                        size_t out_len);
 
+/* The number of states in a table's bytes. */
+size_t states_of(const uint8_t *table);
 /* The entries that document 01 asks of a work slice. */
 size_t work_entries(size_t ceiling, size_t tags, size_t rules);
 /* Prints what was seen, on one line. */

@@ -7,13 +7,14 @@
 #include "brute.h"
 #include "calls.h"
 #include "ending.h"
+#include "everywhere.h"
 #include "generate.h"
 #include "loaded.h"
 #include "nedzsuka.h"
 #include "slices.h"
 #include "typing.h"
 
-enum { SMALL_RULES = 34, SMALL_BOOKS = 1 + SMALL_RULES + SMALL_RULES * SMALL_RULES, LONGEST_SENTENCE = 65535 };
+enum { SMALL_RULES = 68, SMALL_BOOKS = 1 + SMALL_RULES + SMALL_RULES * SMALL_RULES, LONGEST_SENTENCE = 65535 };
 
 static uint8_t sentence[LONGEST_TRIED_SENTENCE], result[LONGEST_TRIED_SENTENCE], table[TABLE_ROOM];
 static size_t tried_out, alike;
@@ -26,11 +27,6 @@ static size_t refusal_of(uint64_t answer)
 static size_t value_of(uint64_t answer)
 {
     return (size_t)(answer >> 8);
-}
-
-static size_t states_of(const uint8_t *bytes)
-{
-    return (size_t)bytes[2] * 256 + bytes[3];
 }
 
 /* ---- What document 01 prints ---- */
@@ -68,6 +64,8 @@ static void expect_refusal(const char *book, size_t book_len, uint64_t ceiling, 
 static const char book_a[] = "\x20\x02\x21\x00\x01\x22\x00\x22\x01";
 static const char book_b[] = "\x20\x02\x21\x00\x01\x22\x00\x21\x00\x00\x22\x01";
 static const char book_c[] = "\x20\x05\x21\x01\x02\x22\x00\x22\x01\x21\x00\x01\x22\x02\x22\x03";
+/* 0 1 -> 1 1 everywhere, then 1 1 -> 0 1, then 0 -> 1 everywhere. */
+static const char book_mixed[] = "\x20\x02\x24\x00\x01\x22\x00\x22\x01\x21\x00\x00\x22\x01\x22\x01\x24\x00\x01\x22\x00";
 
 static void compare_published_runs(void)
 {
@@ -168,6 +166,7 @@ static void compare_every_byte_of_some(void)
 
     compare_every_byte(RUN_BOOK, (const uint8_t *)book_b, sizeof book_b);
     compare_every_byte(RUN_BOOK, (const uint8_t *)book_c, sizeof book_c);
+    compare_every_byte(RUN_BOOK, (const uint8_t *)book_mixed, sizeof book_mixed);
     answer = compare_compile((const uint8_t *)book_a, sizeof book_a, 3, work_entries(3, 2, 1), 43);
     memcpy(bytes, last_out, value_of(answer));
     compare_every_byte(RUN_TABLE, bytes, value_of(answer));
@@ -189,25 +188,28 @@ static void compare_both_runs(const uint8_t *book, size_t book_len, size_t table
         fail("the compiled table makes something else of the sentence than its book");
 }
 
-static void compare_runs(const uint8_t *book, size_t book_len, size_t table_len, size_t times)
+static void compare_runs(const struct made_book *made, const uint8_t *book, size_t book_len, size_t table_len, size_t times)
 {
     while (times-- > 0) {
         size_t length = some_length();
-        some_sentence(sentence, length, book[1]);
+        sentence_for(sentence, length, made);
         compare_both_runs(book, book_len, table_len, length);
-        some_sentence(sentence, length, book[1]);
+        sentence_for(sentence, length, made);
         compare_run(RUN_BOOK, book, book_len, sentence, length, some_room(length));
         if (table_len < 50000)
             compare_run(RUN_TABLE, table, table_len, sentence, length, some_room(length));
     }
 }
 
-static void compare_long_runs(const uint8_t *book, size_t book_len, size_t table_len)
+static void compare_long_runs(const struct made_book *made, const uint8_t *book, size_t book_len, size_t table_len)
 {
     static const size_t lengths[] = {65534, 65535, 65536, 65537, LONGEST_TRIED_SENTENCE};
     size_t length = lengths[random_below(sizeof lengths / sizeof *lengths)];
 
-    random_sentence(sentence, length, book[1]);
+    if (one_in(2))
+        random_sentence(sentence, length, book[1]);
+    else
+        matching_sentence(sentence, length, made);
     if (one_in(2)) /* matches near the end only */
         memset(sentence, (int)random_below(book[1]), length - random_below(300));
     if (one_in(4))
@@ -285,13 +287,14 @@ static void compare_book(const struct made_book *book, size_t runs)
     table_len = compile_whole(book, bytes, length);
     if (table_len == 0)
         return;
+    check_one_rule(book, NO_END, table);
     compare_around(book, bytes, length, table_len);
-    compare_runs(bytes, length, table_len, runs);
+    compare_runs(book, bytes, length, table_len, runs);
     compare_read(READ_BOOK, bytes, length);
     compare_loaded_table(table, table_len, runs);
     compare_typed_table(table, table_len, 1);
     if (one_in(20))
-        compare_long_runs(bytes, length, table_len);
+        compare_long_runs(book, bytes, length, table_len);
 }
 
 static void compare_books(size_t times)
@@ -338,13 +341,22 @@ static void compare_big_books(size_t times)
     }
 }
 
-/* Eight rules that meet nowhere have 256 states, one more is beyond every ceiling; every ceiling below refuses some leading part. */
+static void set_kind(struct made_book *book, uint8_t everywhere)
+{
+    for (size_t i = 0; i < book->rules; i++)
+        book->rule[i].everywhere = everywhere;
+}
+
+/* Eight rules that meet nowhere and fire once have 256 states, one more is beyond every ceiling; every ceiling below refuses some leading
+   part. */
 static void compare_ceilings(void)
 {
     struct made_book book = separate_book(18, 9, 1);
     uint8_t bytes[LONGEST_BOOK];
-    size_t length = write_book(&book, bytes);
+    size_t length;
 
+    set_kind(&book, 0);
+    length = write_book(&book, bytes);
     for (uint64_t ceiling = 1; ceiling <= 256; ceiling++)
         if (compare_compile(bytes, length, ceiling, work_for(ceiling, &book), one_in(2) ? 0 : 100) % 256 != 10)
             fail("a table for more than 256 states");
@@ -355,7 +367,7 @@ static void compare_ceilings(void)
 }
 
 /* The most tags and rules, and the work slice that is always enough. */
-static void compare_greatest(void)
+static void compare_greatest(uint8_t everywhere)
 {
     struct made_book book = random_book(48, 16, 1);
     uint8_t bytes[LONGEST_BOOK];
@@ -365,6 +377,7 @@ static void compare_greatest(void)
         book.rule[i] = book.rule[i % 3];
         book.rule[i].new_tag = (uint8_t)((book.rule[i].pattern[0] + 1 + i) % 48);
     }
+    set_kind(&book, everywhere);
     length = write_book(&book, bytes);
     compare_compile(bytes, length, 256, MOST_WORK - 1, LONGEST_TABLE);
     compare_compile(bytes, length, 256, MOST_WORK, LONGEST_TABLE);
@@ -419,7 +432,7 @@ static void compare_lengthened_books(size_t times)
 /* Random bytes out of the commands, so that reading goes on for a while. */
 static void compare_bytes_of_books(size_t times)
 {
-    static const uint8_t common[] = {0x21, 0x21, 0x22, 0x22, 0x22, 0x00, 0x00, 0x01, 0x01, 0x02, 0x20, 0x05};
+    static const uint8_t common[] = {0x21, 0x24, 0x22, 0x22, 0x22, 0x00, 0x00, 0x01, 0x01, 0x02, 0x20, 0x05};
     uint8_t bytes[64] = {0x20, 0x03};
 
     while (times-- > 0) {
@@ -478,24 +491,17 @@ static void compare_table_bounds(void)
 
 /* ---- Tables found by trying words ---- */
 
-/* The sum of the pattern lengths was deep enough for all books of several small shapes, and one less was not; one more is taken. */
 static void compare_tried(const struct made_book *book)
 {
-    static uint8_t tried[BRUTE_BYTES];
     uint8_t bytes[LONGEST_BOOK];
-    size_t length = write_book(book, bytes), depth = 1, tried_len;
+    size_t length = write_book(book, bytes);
     uint64_t answer = compare_compile(bytes, length, BRUTE_STATES, work_for(BRUTE_STATES, book), BRUTE_BYTES);
 
-    for (size_t i = 0; i < book->rules; i++)
-        depth += book->rule[i].length;
-    tried_len = brute_table(book, NO_END, depth, tried);
-    if (refusal_of(answer) == 10 && tried_len == 0)
-        return;
-    if (refusal_of(answer) != 0 || states_of(tried) != states_of(last_out))
-        fail("another number of states than trying words gives");
-    if (value_of(answer) != tried_len || memcmp(tried, last_out, tried_len) != 0)
+    if (refusal_of(answer) != 0 && refusal_of(answer) != 10)
+        fail("no table, and not for too many states");
+    if (!brute_finds(book, NO_END, last_out, refusal_of(answer) == 10 ? 0 : value_of(answer)))
         fail("another table than trying words gives");
-    tried_out++;
+    tried_out += refusal_of(answer) == 0;
 }
 
 static size_t small_rules(struct made_rule *rules)
@@ -504,21 +510,23 @@ static size_t small_rules(struct made_rule *rules)
 
     for (uint8_t length = 1; length <= 3; length++)
         for (unsigned pattern = 0; pattern < 1u << length; pattern++)
-            for (uint8_t place = 0; place < length; place++, count++) {
-                struct made_rule rule = {{0}, length, place, 0};
+            for (uint8_t place = 0; place < length; place++) {
+                struct made_rule rule = {{0}, length, place, 0, 0};
                 for (uint8_t i = 0; i < length; i++)
                     rule.pattern[i] = pattern >> i & 1;
                 rule.new_tag = 1 - rule.pattern[place];
-                rules[count] = rule;
+                rules[count++] = rule;
+                rule.everywhere = 1;
+                rules[count++] = rule;
             }
     return count;
 }
 
-/* What a book makes of every sentence of at most ten tags out of two, as one number. */
+/* What a book makes of every sentence of at most eleven tags out of two, as one number. Ten do not tell all small books apart. */
 static uint64_t behavior_mark(const struct made_book *book)
 {
     uint64_t mark = 14695981039346656037u;
-    uint8_t word[10];
+    uint8_t word[11];
 
     for (size_t length = 0; length <= sizeof word; length++)
         for (unsigned bits = 0; bits < 1u << length; bits++) {
@@ -559,7 +567,7 @@ static void compare_small_books(void)
 
     for (size_t i = 0; i <= all; i++)
         for (size_t j = 0; j <= (i == 0 ? 0 : all); j++, count++) {
-            struct made_book book = {2, (uint8_t)((i > 0) + (j > 0)), {{{0}, 0, 0, 0}}};
+            struct made_book book = {2, (uint8_t)((i > 0) + (j > 0)), {{{0}, 0, 0, 0, 0}}};
             if (i > 0)
                 book.rule[0] = rules[i - 1];
             if (j > 0)
@@ -620,6 +628,44 @@ static void compare_reordered(size_t times)
     }
 }
 
+/* Chosen inputs, and all small ones. */
+static void compare_chosen(void)
+{
+    compare_work_helper();
+    compare_published_runs();
+    compare_published_tables();
+    compare_every_byte_of_some();
+    compare_every_number();
+    compare_hoards();
+    compare_small_books();
+    compare_everywhere_cases();
+    compare_one_rules();
+    compare_full_sentences();
+    compare_ending_cases();
+    compare_every_end();
+    alike += compare_ending_pairs();
+    compare_table_bounds();
+    compare_ceilings();
+    compare_greatest(0);
+    compare_greatest(1);
+}
+
+static void compare_drawn(void)
+{
+    compare_random_numbers(30000);
+    compare_tried_books(2500);
+    tried_out += compare_ending_tried(600);
+    compare_ending_books(6000);
+    compare_bytes_of_books(30000);
+    compare_damaged_books(60000);
+    compare_lengthened_books(6000);
+    compare_tables(60000);
+    compare_longest_typed(3);
+    compare_books(8000);
+    compare_reordered(150);
+    compare_big_books(200);
+}
+
 int main(int argc, char **argv)
 {
     char *end = NULL;
@@ -630,31 +676,8 @@ int main(int argc, char **argv)
         return 2;
     }
     start_calls(seed);
-    compare_work_helper();
-    compare_published_runs();
-    compare_published_tables();
-    compare_every_byte_of_some();
-    compare_every_number();
-    compare_hoards();
-    compare_random_numbers(30000);
-    compare_small_books();
-    compare_tried_books(2500);
-    compare_ending_cases();
-    compare_every_end();
-    alike += compare_ending_pairs();
-    tried_out += compare_ending_tried(600);
-    compare_ending_books(6000);
-    compare_bytes_of_books(30000);
-    compare_damaged_books(60000);
-    compare_lengthened_books(6000);
-    compare_table_bounds();
-    compare_tables(60000);
-    compare_longest_typed(3);
-    compare_books(8000);
-    compare_reordered(150);
-    compare_ceilings();
-    compare_big_books(200);
-    compare_greatest();
+    compare_chosen();
+    compare_drawn();
     print_counts(tried_out, alike);
     return 0;
 }

@@ -4,91 +4,41 @@
 
 #include "brute.h"
 #include "calls.h"
+#include "everywhere.h"
+#include "expect.h"
 #include "generate.h"
 #include "slices.h"
 
-enum { PAIR_TAGS = 3, PAIR_RULES = 42, PAIR_BOOKS = 4 * (1 + PAIR_RULES + PAIR_RULES * PAIR_RULES), PAIR_LENGTH = 8 };
+enum { PAIR_TAGS = 3, PAIR_RULES = 84, PAIR_BOOKS = 4 * (1 + PAIR_RULES + PAIR_RULES * PAIR_RULES), PAIR_LENGTH = 8 };
 
-static uint8_t sentence[LONGEST_TRIED_SENTENCE], result[LONGEST_TRIED_SENTENCE], table[TABLE_ROOM];
-
-static size_t states_of(const uint8_t *bytes)
-{
-    return (size_t)bytes[2] * 256 + bytes[3];
-}
-
-/* The book with the end tag and its compiled table do the same of the sentence. */
-static void compare_all_runs(const uint8_t *book, size_t book_len, unsigned end, size_t table_len, size_t length)
-{
-    uint64_t by_book = compare_run_ending(book, book_len, end, sentence, length, length);
-
-    if (by_book % 256 == 0 && length > 0)
-        memcpy(result, last_out, length);
-    if (compare_run(RUN_TABLE, table, table_len, sentence, length, length) != by_book)
-        fail("the compiled table answers otherwise than its book with the end tag");
-    if (by_book % 256 == 0 && length > 0 && memcmp(result, last_out, length) != 0)
-        fail("the compiled table makes something else of the sentence than its book with the end tag");
-}
+static uint8_t sentence[LONGEST_TRIED_SENTENCE], table[TABLE_ROOM];
 
 /* ---- Cases ---- */
-
-static size_t compile_to_table(const uint8_t *book, size_t length, unsigned end)
-{
-    uint64_t answer = compare_compile_ending(book, length, end, 256, MOST_WORK, LONGEST_TABLE);
-
-    if (answer % 256 != 0)
-        fail("no table for a case with an end tag");
-    memcpy(table, last_out, answer / 256);
-    return answer / 256;
-}
-
-static void expect(const char *book, size_t book_len, unsigned end, const char *from, const char *to, size_t length, size_t changed)
-{
-    uint64_t answer = compare_run_ending((const uint8_t *)book, book_len, end, (const uint8_t *)from, length, length);
-
-    if (answer != changed * 256 || (length > 0 && memcmp(last_out, to, length) != 0))
-        fail("not what the book with the end tag makes of the sentence");
-    if (length > 0)
-        memcpy(sentence, from, length);
-    compare_all_runs((const uint8_t *)book, book_len, end, compile_to_table((const uint8_t *)book, book_len, end), length);
-}
-
-static void expect_states(const char *book, size_t book_len, unsigned end, size_t states)
-{
-    compile_to_table((const uint8_t *)book, book_len, end);
-    if (states_of(table) != states)
-        fail("not the number of states of a case with an end tag");
-}
-
-static void expect_14(const char *book, size_t book_len, unsigned end)
-{
-    if (compare_compile_ending((const uint8_t *)book, book_len, end, 256, 0, 0) != 14 ||
-        compare_compile_ending((const uint8_t *)book, book_len, end, 256, MOST_WORK, 4096) != 14 ||
-        compare_run_ending((const uint8_t *)book, book_len, end, (const uint8_t *)"\xff", 1, 0) != 14)
-        fail("not 14");
-}
 
 /* 0 1 -> 0 2, 0 3 -> 1 3 and 3 1 -> 3 2, each over four tags. */
 static const char noun[] = "\x20\x04\x21\x01\x02\x22\x00\x22\x01", closing[] = "\x20\x04\x21\x00\x01\x22\x00\x22\x03";
 static const char opening[] = "\x20\x04\x21\x01\x02\x22\x03\x22\x01", made[] = "\x20\x04\x21\x00\x03\x22\x01";
+static const char noun_everywhere[] = "\x20\x04\x24\x01\x02\x22\x00\x22\x01";
+static const char closing_everywhere[] = "\x20\x04\x24\x00\x01\x22\x00\x22\x03";
 
 void compare_ending_cases(void)
 {
-    expect(noun, sizeof noun, 3, "\0\1\0\1\3\0\1\3\1\0\1\3", "\0\2\0\1\3\0\2\3\1\0\2\3", 12, 3); /* ends with the end tag */
-    expect(noun, sizeof noun, 3, "\0\1\0\1\3\0\1\3\1\0\1", "\0\2\0\1\3\0\2\3\1\0\2", 11, 3);     /* and without it */
-    expect(noun, sizeof noun, 3, "\0\1\0\1\0\1", "\0\2\0\1\0\1", 6, 1);                          /* none in the sentence */
-    expect(noun, sizeof noun, 3, "\3\3\0\1\3\3\0\1", "\3\3\0\2\3\3\0\2", 8, 2);                  /* pieces of the end tag alone */
-    expect(noun, sizeof noun, 3, "\0\3\1\0\1", "\0\3\1\0\2", 5, 1);                              /* no match across a full stop */
-    expect(noun, sizeof noun, 3, "", "", 0, 0);
-    expect(noun, sizeof noun, 3, "\3", "\3", 1, 0);
-    expect(noun, sizeof noun, NO_END, "\0\1\0\1\3\0\1\3", "\0\2\0\1\3\0\1\3", 8, 1);
-    expect(closing, sizeof closing, 3, "\0\0\3\0\3\1\0", "\0\1\3\1\3\1\0", 7, 2);
-    expect("\x20\x04\x21\x01\x02\x22\x03\x22\x01", 10, 0, "\3\1\3\1\0\3\1", "\3\2\3\1\0\3\2", 7, 2); /* end tag 0 */
-    expect_states(noun, sizeof noun, 3, 3);
-    expect_states(noun, sizeof noun, NO_END, 3);
-    expect_states(closing, sizeof closing, 3, 2);
-    expect_states(closing, sizeof closing, 2, 3);
-    expect_states(closing, sizeof closing, NO_END, 3);
-    expect_states("\x20\x04", 3, 3, 1);
+    expect_result(noun, sizeof noun, 3, "\0\1\0\1\3\0\1\3\1\0\1\3", "\0\2\0\1\3\0\2\3\1\0\2\3", 12, 3); /* ends with the end tag */
+    expect_result(noun, sizeof noun, 3, "\0\1\0\1\3\0\1\3\1\0\1", "\0\2\0\1\3\0\2\3\1\0\2", 11, 3);     /* and without it */
+    expect_result(noun, sizeof noun, 3, "\0\1\0\1\0\1", "\0\2\0\1\0\1", 6, 1);                          /* none in the sentence */
+    expect_result(noun, sizeof noun, 3, "\3\3\0\1\3\3\0\1", "\3\3\0\2\3\3\0\2", 8, 2);                  /* pieces of the end tag alone */
+    expect_result(noun, sizeof noun, 3, "\0\3\1\0\1", "\0\3\1\0\2", 5, 1);                              /* no match across a full stop */
+    expect_result(noun, sizeof noun, 3, "", "", 0, 0);
+    expect_result(noun, sizeof noun, 3, "\3", "\3", 1, 0);
+    expect_result(noun, sizeof noun, NO_END, "\0\1\0\1\3\0\1\3", "\0\2\0\1\3\0\1\3", 8, 1);
+    expect_result(closing, sizeof closing, 3, "\0\0\3\0\3\1\0", "\0\1\3\1\3\1\0", 7, 2);
+    expect_result("\x20\x04\x21\x01\x02\x22\x03\x22\x01", 10, 0, "\3\1\3\1\0\3\1", "\3\2\3\1\0\3\2", 7, 2); /* end tag 0 */
+    expect_fewest(noun, sizeof noun, 3, 3);
+    expect_fewest(noun, sizeof noun, NO_END, 3);
+    expect_fewest(closing, sizeof closing, 3, 2);
+    expect_fewest(closing, sizeof closing, 2, 3);
+    expect_fewest(closing, sizeof closing, NO_END, 3);
+    expect_fewest("\x20\x04", 3, 3, 1);
     expect_14(noun, sizeof noun, 4);
     expect_14(noun, sizeof noun, 254);
     expect_14(noun, sizeof noun, 1);       /* the tag that is changed */
@@ -106,7 +56,7 @@ void compare_ending_cases(void)
 void compare_every_end(void)
 {
     static const uint8_t tags[] = {0, 1, 3, 0, 1, 2, 2, 0, 3, 3, 0, 1};
-    static const char *const books[] = {noun, closing, opening};
+    static const char *const books[] = {noun, closing, opening, noun_everywhere, closing_everywhere};
 
     for (size_t i = 0; i < sizeof books / sizeof *books; i++)
         for (unsigned end = 0; end < 256; end++) {
@@ -132,10 +82,12 @@ static size_t pair_rules(struct made_rule *rules)
     for (uint8_t length = 1; length <= 2; length++)
         for (uint8_t pattern = 0; pattern < (length == 1 ? PAIR_TAGS : PAIR_TAGS * PAIR_TAGS); pattern++)
             for (uint8_t place = 0; place < length; place++)
-                for (uint8_t step = 1; step < PAIR_TAGS; step++, count++) {
-                    struct made_rule rule = {{(uint8_t)(pattern % PAIR_TAGS), (uint8_t)(pattern / PAIR_TAGS)}, length, place, 0};
+                for (uint8_t step = 1; step < PAIR_TAGS; step++) {
+                    struct made_rule rule = {{(uint8_t)(pattern % PAIR_TAGS), (uint8_t)(pattern / PAIR_TAGS)}, length, place, 0, 0};
                     rule.new_tag = (uint8_t)((rule.pattern[place] + step) % PAIR_TAGS);
-                    rules[count] = rule;
+                    rules[count++] = rule;
+                    rule.everywhere = 1;
+                    rules[count++] = rule;
                 }
     return count;
 }
@@ -198,7 +150,7 @@ size_t compare_ending_pairs(void)
 
     for (size_t i = 0; i <= all; i++)
         for (size_t j = 0; j <= (i == 0 ? 0 : all); j++) {
-            struct made_book book = {PAIR_TAGS, (uint8_t)((i > 0) + (j > 0)), {{{0}, 0, 0, 0}}};
+            struct made_book book = {PAIR_TAGS, (uint8_t)((i > 0) + (j > 0)), {{{0}, 0, 0, 0, 0}}};
             if (i > 0)
                 book.rule[0] = rules[i - 1];
             if (j > 0)
@@ -246,10 +198,10 @@ static unsigned some_end(struct made_book *book)
 }
 
 /* A paragraph: the end tag stands in it often. */
-static void some_paragraph(size_t length, size_t tags, unsigned end)
+static void some_paragraph(const struct made_book *book, size_t length, unsigned end)
 {
-    some_sentence(sentence, length, tags);
-    if (end >= tags || one_in(8))
+    sentence_for(sentence, length, book);
+    if (end >= book->tags || one_in(8))
         return;
     for (size_t i = random_below(6); i < length; i += 1 + random_below(12))
         sentence[i] = (uint8_t)end;
@@ -295,13 +247,14 @@ static void compare_ending_book(struct made_book *book)
 
     if (answer % 256 == 0) {
         memcpy(table, last_out, answer / 256);
+        check_one_rule(book, end, table);
         compare_around_states(bytes, length, end, book, answer / 256);
     }
     for (int times = 0; times < 6; times++) {
         size_t count = some_length();
-        some_paragraph(count, book->tags, end);
+        some_paragraph(book, count, end);
         if (answer % 256 == 0)
-            compare_all_runs(bytes, length, end, answer / 256, count);
+            compare_with_table(bytes, length, end, table, answer / 256, sentence, count);
         compare_run_ending(bytes, length, end, sentence, count, some_room(count));
     }
     if (end == NO_END && compare_compile(bytes, length, 256, work_entries(256, book->tags, book->rules), 60000) != answer)
@@ -315,7 +268,7 @@ static void compare_damaged_ending(struct made_book *book)
     size_t length = damage(bytes, write_book(book, bytes)), count = random_below(20);
 
     compare_compile_ending(bytes, length, end, random_below(5), work_entries(4, 48, 3), 600);
-    some_paragraph(count, book->tags, end);
+    some_paragraph(book, count, end);
     compare_run_ending(bytes, length, end, sentence, count, some_room(count));
 }
 
@@ -328,7 +281,10 @@ static void compare_long_paragraphs(struct made_book *book)
     unsigned end = some_end(book);
 
     count = write_book(book, bytes);
-    random_sentence(sentence, length, book->tags);
+    if (one_in(2))
+        random_sentence(sentence, length, book->tags);
+    else
+        matching_sentence(sentence, length, book);
     for (size_t i = 0; i < length && one_in(2); i++)
         if (sentence[i] == end)
             sentence[i] = (uint8_t)(end == 0);
@@ -347,26 +303,19 @@ void compare_ending_books(size_t times)
     }
 }
 
-/* As without an end tag: one more than the sum of the pattern lengths is deep enough. */
 size_t compare_ending_tried(size_t times)
 {
-    static uint8_t tried[BRUTE_BYTES];
     size_t found = 0;
 
     while (times-- > 0) {
         struct made_book book = random_book(3, 1 + random_below(2), 3);
         uint8_t bytes[LONGEST_BOOK];
         unsigned end = some_end(&book);
-        size_t length, depth = 1, tried_len;
-        uint64_t answer;
-        for (size_t i = 0; i < book.rules; i++)
-            depth += book.rule[i].length;
-        length = write_book(&book, bytes);
-        answer = compare_compile_ending(bytes, length, end, BRUTE_STATES, work_entries(BRUTE_STATES, 3, book.rules), BRUTE_BYTES);
+        size_t length = write_book(&book, bytes), needed = work_entries(BRUTE_STATES, 3, book.rules);
+        uint64_t answer = compare_compile_ending(bytes, length, end, BRUTE_STATES, needed, BRUTE_BYTES);
         if (answer % 256 == 14)
             continue;
-        tried_len = brute_table(&book, end, depth, tried);
-        if (answer != tried_len * 256 || memcmp(tried, last_out, tried_len) != 0)
+        if (answer % 256 != 0 || !brute_finds(&book, end, last_out, answer / 256))
             fail("another table than trying words with an end tag gives");
         found++;
     }

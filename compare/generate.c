@@ -13,7 +13,7 @@ static uint8_t tag_but(size_t used, uint8_t not_this)
 
 struct made_rule random_rule(size_t tags, size_t used, size_t longest)
 {
-    struct made_rule rule = {{0}, 0, 0, 0};
+    struct made_rule rule = {{0}, 0, 0, 0, 0};
     size_t period = 1 + random_below(longest);
 
     rule.length = (uint8_t)(1 + random_below(longest));
@@ -40,9 +40,18 @@ static struct made_rule related_rule(const struct made_rule *before, size_t used
     return rule;
 }
 
+/* Half of the books have no rule that fires everywhere, a quarter has no other, a quarter may have both. */
+static void draw_kinds(struct made_book *book)
+{
+    size_t drawn = random_below(4);
+
+    for (size_t i = 0; i < book->rules; i++)
+        book->rule[i].everywhere = drawn == 2 || (drawn == 3 && one_in(2));
+}
+
 struct made_book random_book(size_t tags, size_t rules, size_t longest)
 {
-    struct made_book book = {(uint8_t)tags, (uint8_t)rules, {{{0}, 0, 0, 0}}};
+    struct made_book book = {(uint8_t)tags, (uint8_t)rules, {{{0}, 0, 0, 0, 0}}};
     size_t used = 2 + random_below(tags < 6 ? tags - 1 : one_in(3) ? tags - 1 : 4);
 
     for (size_t i = 0; i < rules; i++) {
@@ -51,12 +60,13 @@ struct made_book random_book(size_t tags, size_t rules, size_t longest)
         else
             book.rule[i] = random_rule(tags, used, longest);
     }
+    draw_kinds(&book);
     return book;
 }
 
 struct made_book separate_book(size_t tags, size_t rules, size_t longest)
 {
-    struct made_book book = {(uint8_t)tags, (uint8_t)rules, {{{0}, 0, 0, 0}}};
+    struct made_book book = {(uint8_t)tags, (uint8_t)rules, {{{0}, 0, 0, 0, 0}}};
     size_t own = tags / rules;
 
     for (size_t i = 0; i < rules; i++) {
@@ -66,12 +76,13 @@ struct made_book separate_book(size_t tags, size_t rules, size_t longest)
             rule->pattern[t] = (uint8_t)(rule->pattern[t] + i * own);
         rule->new_tag = (uint8_t)(rule->new_tag + i * own);
     }
+    draw_kinds(&book);
     return book;
 }
 
 struct made_book holding_book(size_t tags, size_t rules, size_t longest)
 {
-    struct made_book book = {(uint8_t)tags, (uint8_t)rules, {{{0}, 0, 0, 0}}};
+    struct made_book book = {(uint8_t)tags, (uint8_t)rules, {{{0}, 0, 0, 0, 0}}};
 
     for (size_t i = 0; i < rules; i++) {
         struct made_rule *rule = &book.rule[i];
@@ -84,6 +95,7 @@ struct made_book holding_book(size_t tags, size_t rules, size_t longest)
         rule->place = 0;
         rule->new_tag = tag_but(tags, rule->pattern[0]);
     }
+    draw_kinds(&book);
     return book;
 }
 
@@ -94,7 +106,7 @@ size_t write_book(const struct made_book *book, uint8_t *bytes)
     *to++ = 0x20;
     *to++ = book->tags;
     for (size_t i = 0; i < book->rules; i++) {
-        *to++ = 0x21;
+        *to++ = book->rule[i].everywhere ? 0x24 : 0x21;
         *to++ = book->rule[i].place;
         *to++ = book->rule[i].new_tag;
         for (size_t t = 0; t < book->rule[i].length; t++) {
@@ -111,7 +123,7 @@ size_t lengthen_book(uint8_t *bytes, size_t length, size_t tags)
     uint8_t *to = bytes + length - 1;
 
     if (one_in(2)) {
-        *to++ = 0x21;
+        *to++ = one_in(2) ? 0x21 : 0x24;
         *to++ = (uint8_t)random_below(2);
         *to++ = (uint8_t)random_below(tags + 1);
     }
@@ -162,8 +174,8 @@ size_t random_table(size_t tags, size_t states, size_t first_held, size_t most_h
 
 static uint8_t likely_byte(void)
 {
-    static const uint8_t likely[] = {0x00, 0x01, 0x02, 0x06, 0x20, 0x21, 0x22, 0x23, 0x30, 0x31,
-                                     0x32, 0x33, 0x34, 0x35, 0x50, 0x51, 0xff};
+    static const uint8_t likely[] = {0x00, 0x01, 0x02, 0x06, 0x20, 0x21, 0x22, 0x23, 0x24, 0x25,
+                                     0x30, 0x31, 0x32, 0x33, 0x34, 0x35, 0x50, 0x51, 0xff};
 
     return one_in(3) ? (uint8_t)random_bits() : likely[random_below(sizeof likely)];
 }
@@ -223,6 +235,27 @@ void some_sentence(uint8_t *sentence, size_t length, size_t tags)
     random_sentence(sentence, length, tags);
     if (length > 0 && one_in(10))
         sentence[random_below(length)] = one_in(2) ? (uint8_t)tags : wrong[random_below(sizeof wrong)];
+}
+
+void matching_sentence(uint8_t *sentence, size_t length, const struct made_book *book)
+{
+    size_t i = 0;
+
+    random_sentence(sentence, length, book->tags);
+    while (book->rules > 0 && i < length) {
+        const struct made_rule *rule = &book->rule[random_below(book->rules)];
+        for (size_t t = one_in(3) ? random_below(rule->length) : 0; t < rule->length && i < length; t++)
+            sentence[i++] = rule->pattern[t];
+        i += one_in(5);
+    }
+}
+
+void sentence_for(uint8_t *sentence, size_t length, const struct made_book *book)
+{
+    if (one_in(3))
+        matching_sentence(sentence, length, book);
+    else
+        some_sentence(sentence, length, book->tags);
 }
 
 size_t some_length(void)

@@ -9,7 +9,7 @@ enum { MOST_TAGS = 48, MOST_RULES = 16, LONGEST_PATTERN = 6, MOST_STATES = 256, 
 enum { LONGEST_BOOK = 2 + MOST_RULES * (3 + 2 * LONGEST_PATTERN) + 1, DAMAGED_ROOM = 16, LENGTHENED_ROOM = 5 };
 
 struct made_rule {
-    uint8_t pattern[LONGEST_PATTERN], length, place, new_tag;
+    uint8_t pattern[LONGEST_PATTERN], length, place, new_tag, everywhere;
 };
 
 struct made_book {
@@ -17,7 +17,7 @@ struct made_book {
     struct made_rule rule[MOST_RULES];
 };
 
-/* A valid rule over the first so many of the book's tags. */
+/* A valid rule over the first so many of the book's tags, which fires once. The books below mix rules that fire once and everywhere. */
 struct made_rule random_rule(size_t tags, size_t used, size_t longest);
 /* A valid book whose rules often meet: few tags, equal patterns, rules that undo one another. */
 struct made_book random_book(size_t tags, size_t rules, size_t longest);
@@ -37,6 +37,10 @@ size_t damage(uint8_t *bytes, size_t length);
 void random_sentence(uint8_t *sentence, size_t length, size_t tags);
 /* Now and then one of its tags is not below the number of tags. */
 void some_sentence(uint8_t *sentence, size_t length, size_t tags);
+/* Patterns of the book's rules close together, so that matches meet and overlap: whole ones, ends of them, now and then a tag between. */
+void matching_sentence(uint8_t *sentence, size_t length, const struct made_book *book);
+/* One of the two. */
+void sentence_for(uint8_t *sentence, size_t length, const struct made_book *book);
 /* The length of a sentence, mostly short. */
 size_t some_length(void);
 /* The length of an output slice: as long as needed, a byte short, longer or of no bytes. */

@@ -20,7 +20,7 @@ enum {
 
 struct rule {
     uint8_t pattern[LONGEST_PATTERN];
-    int length, place, new_tag;
+    int length, place, new_tag, everywhere;
 };
 
 /* With the end tag of the call, 255 for none. */
@@ -71,7 +71,7 @@ static int read_command(struct book *book, uint8_t byte, enum expected *expected
             return 1;
         return book->rule[book->rules - 1].length == LONGEST_PATTERN ? 3 : 0;
     }
-    if (byte != 0x21 && byte != 0x00)
+    if (byte != 0x21 && byte != 0x24 && byte != 0x00)
         return 1;
     refusal = refusal_at_closing(book);
     if (refusal)
@@ -82,6 +82,7 @@ static int read_command(struct book *book, uint8_t byte, enum expected *expected
     }
     if (book->rules == MOST_RULES)
         return 7;
+    book->rule[book->rules].everywhere = byte == 0x24;
     book->rule[book->rules++].length = 0;
     *expected = PLACE;
     return 0;
@@ -209,13 +210,18 @@ static int occurs_at(const struct rule *rule, const uint8_t *tags)
     return 1;
 }
 
-static void rewrite_leftmost(const struct rule *rule, uint8_t *sentence, size_t length)
+/* The leftmost match; everywhere: matching begins again behind its last tag. */
+static void rewrite(const struct rule *rule, uint8_t *sentence, size_t length)
 {
-    for (size_t x = 0; x + (size_t)rule->length <= length; x++) {
-        if (occurs_at(rule, sentence + x)) {
-            sentence[x + (size_t)rule->place] = (uint8_t)rule->new_tag;
-            return;
+    size_t x = 0;
+
+    while (x + (size_t)rule->length <= length) {
+        if (!occurs_at(rule, sentence + x)) {
+            x++;
+            continue;
         }
+        sentence[x + (size_t)rule->place] = (uint8_t)rule->new_tag;
+        x = rule->everywhere ? x + (size_t)rule->length : length;
     }
 }
 
@@ -228,7 +234,7 @@ static void rewrite_pieces(const struct book *book, uint8_t *sentence, size_t le
         if (to < length && sentence[to - 1] != book->end)
             continue;
         for (int i = 0; i < book->rules; i++)
-            rewrite_leftmost(&book->rule[i], sentence + from, to - from);
+            rewrite(&book->rule[i], sentence + from, to - from);
         from = to;
     }
 }
@@ -621,6 +627,12 @@ uint64_t reference_run_loaded(const uint32_t *loaded, size_t loaded_len, const u
 
 /* ---- One rule's transducer (definition 2): its states are the matched lengths ---- */
 
+/* Everywhere: a whole match leads back to the start, so that the whole length is no state. */
+static int after_match(const struct rule *rule)
+{
+    return rule->everywhere ? 0 : rule->length;
+}
+
 static int held_at(const struct rule *rule, int matched)
 {
     return matched > rule->place && matched < rule->length ? matched - rule->place : 0;
@@ -653,7 +665,7 @@ static int feed(const struct rule *rule, int matched, int tag, struct word *word
         put(word, rule->new_tag);
         for (int i = rule->place + 1; i < rule->length; i++)
             put(word, rule->pattern[i]);
-        return next;
+        return after_match(rule);
     }
     free_tags = held_at(rule, matched) + 1 - held_at(rule, next);
     for (int i = 0; i < free_tags; i++)
