@@ -1,10 +1,14 @@
-/* Makes one call of the library for each line of standard input, or several for one that types, and prints one line for each;
-   cases/calls.sh has the lines.
+/* Makes one call of the library for each line of standard input, or several for some, and prints one line for each; cases/calls.sh has
+   the lines.
 
    run_table ROOM TABLE / SENTENCE      the number of changed tags or the refusal, then the output slice
    run_book ROOM BOOK / SENTENCE        the same
+   run_compiled ROOM BOOK / SENTENCE    the same, by the table that the book compiles to, or compile's refusal
    compile CEILING ENTRIES ROOM BOOK    the table's states and bytes and on how many sentences it does what the book does, or the refusal
    slices CEILING ENTRIES ROOM BOOK     states and bytes or the refusal, then how much of the slices' memory has changed
+   one_rules COMMAND K LONGEST [LAST]   for 1 to LONGEST every book of one rule with so many of 0 and 1 in its pattern, LAST behind them, and
+                                        the other of both for new tag: how many, the states of their tables, the least to the most, and
+                                        how many are refused with 10 at rule 1 where the ceiling is one lower
    read_book BOOK                       the tags and rules, or the refusal and its byte
    read_table TABLE                     the tags and states, or the refusal
    load_table ROOM TABLE                how many numbers were written or the refusal, then the loaded slice
@@ -19,7 +23,7 @@
    or what a host does between two calls: set STATE GIVEN CLOSED, which sets the sentence's numbers, or byte AT BYTE, which replaces a byte
    of the table.
 
-   With ending END in front, run_book, compile and slices make the calls that name an end tag.
+   With ending END in front, run_book, run_compiled, compile, slices and one_rules make the calls that name an end tag.
 
    ROOM is the length of the output slice, ENTRIES that of the work slice; bytes are pairs of hexadecimal digits, numbers decimal. Output
    and work slices are the front of longer memory, which holds sevens before each call; typing tells where other bytes of it were written.
@@ -161,11 +165,30 @@ static uint64_t run_book(size_t book_len, size_t length, uint8_t *to, size_t roo
     return nedzsuka_run_book(first, book_len, sentence, length, to, room);
 }
 
+static uint64_t compile_book(size_t book_len, uint64_t ceiling, size_t entries, size_t room)
+{
+    if (with_end)
+        return nedzsuka_compile_ending(first, book_len, end_tag, ceiling, work, entries, out, room);
+    return nedzsuka_compile(first, book_len, ceiling, work, entries, out, room);
+}
+
 static void run(int table)
 {
     size_t room = read_number(MOST_BYTES), first_len = read_bytes(first, 1), length = read_bytes(sentence, 0);
 
     print_run(table ? nedzsuka_run_table(first, first_len, sentence, length, out, room) : run_book(first_len, length, out, room), room);
+}
+
+static void run_compiled(void)
+{
+    size_t room = read_number(MOST_BYTES), book_len = read_bytes(first, 1), length = read_bytes(sentence, 0);
+    uint64_t answer = compile_book(book_len, NEDZSUKA_MOST_STATES, MOST_ENTRIES, MOST_BYTES);
+
+    if (refused(answer, "rule"))
+        return;
+    memcpy(first, out, (size_t)nedzsuka_value(answer));
+    memset(out, 7, sizeof out);
+    print_run(nedzsuka_run_table(first, (size_t)nedzsuka_value(answer), sentence, length, out, room), room);
 }
 
 static void run_loaded(void)
@@ -212,8 +235,7 @@ static void compile(int slices)
 {
     size_t ceiling = read_number(UINT32_MAX), entries = read_number(MOST_ENTRIES), room = read_number(MOST_BYTES);
     size_t book_len = read_bytes(first, 0);
-    uint64_t answer = with_end ? nedzsuka_compile_ending(first, book_len, end_tag, ceiling, work, entries, out, room)
-                               : nedzsuka_compile(first, book_len, ceiling, work, entries, out, room);
+    uint64_t answer = compile_book(book_len, ceiling, entries, room);
 
     if (!refused(answer, "rule"))
         printf("states %d, bytes %" PRIu64, out[2] * 256 + out[3], nedzsuka_value(answer));
@@ -221,6 +243,59 @@ static void compile(int slices)
         print_changed();
     else if (nedzsuka_refusal(answer) == NEDZSUKA_OK)
         printf(", agree on %d of %d sentences", agreements(book_len, (size_t)nedzsuka_value(answer)), DRAWN);
+}
+
+/* A book of one rule, whose pattern is the lowest bits of a number, the first tag lowest. */
+static size_t write_rule(uint8_t command, uint8_t tags, size_t length, unsigned pattern, size_t place, const char *last)
+{
+    uint8_t opening[] = {0x20, tags, command, (uint8_t)place, !(pattern >> place & 1)}, *to = first + sizeof opening;
+
+    memcpy(first, opening, sizeof opening);
+    for (size_t i = 0; i < length; i++) {
+        *to++ = 0x22;
+        *to++ = pattern >> i & 1;
+    }
+    if (last != NULL) {
+        *to++ = 0x22;
+        *to++ = byte_of(last);
+    }
+    *to++ = 0x00;
+    return (size_t)(to - first);
+}
+
+struct counts {
+    size_t rules, least, most, refused;
+};
+
+static void count_states(size_t book_len, struct counts *counts)
+{
+    uint64_t answer = compile_book(book_len, NEDZSUKA_MOST_STATES, MOST_ENTRIES, MOST_BYTES);
+    size_t states = nedzsuka_refusal(answer) == NEDZSUKA_OK ? out[2] * 256u + out[3] : 0;
+
+    if (counts->rules == 0 || states < counts->least)
+        counts->least = states;
+    if (states > counts->most)
+        counts->most = states;
+    counts->rules++;
+    counts->refused += states > 1 && compile_book(book_len, states - 1, MOST_ENTRIES, MOST_BYTES) == 256 + NEDZSUKA_TOO_MANY_STATES;
+}
+
+static void one_rules(void)
+{
+    uint8_t command = byte_of(strtok(NULL, " \n")), tags = byte_of(strtok(NULL, " \n"));
+    size_t longest = read_number(NEDZSUKA_LONGEST_PATTERN);
+    const char *last = strtok(NULL, " \n");
+
+    for (size_t length = 1; length <= longest; length++) {
+        struct counts counts = {0, 0, 0, 0};
+        for (unsigned pattern = 0; pattern < 1u << length; pattern++)
+            for (size_t place = 0; place < length; place++)
+                count_states(write_rule(command, tags, length, pattern, place, last), &counts);
+        printf("%s%zu of length %zu, states %zu", length == 1 ? "" : "; ", counts.rules, length + (last != NULL), counts.least);
+        if (counts.least != counts.most)
+            printf(" to %zu", counts.most);
+        printf(", %zu refused below", counts.refused);
+    }
 }
 
 static void print_step(uint64_t answer, const char *call, size_t room, const struct nedzsuka_sentence *typed)
@@ -297,8 +372,12 @@ static void answer_line(const char *word)
         loaded[i] = 7;
     if (strcmp(word, "run_table") == 0 || strcmp(word, "run_book") == 0)
         run(strcmp(word, "run_table") == 0);
+    else if (strcmp(word, "run_compiled") == 0)
+        run_compiled();
     else if (strcmp(word, "compile") == 0 || strcmp(word, "slices") == 0)
         compile(strcmp(word, "slices") == 0);
+    else if (strcmp(word, "one_rules") == 0)
+        one_rules();
     else if (strcmp(word, "read_book") == 0)
         read_book();
     else if (strcmp(word, "read_table") == 0)

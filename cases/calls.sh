@@ -515,3 +515,141 @@ typing_a 'damaged and repaired' open '0 put, sentence 0 0 0' 'give 0 2' '0 put, 
     'byte 42 00 look 2' '1 put, output 0 7, sentence 1 1 0' 'give 1 2' '2 put, output 1 1, sentence 2 2 0'
 typing_a 'with another held tag' open '0 put, sentence 0 0 0' 'give 0 2' '0 put, output 7 7, sentence 1 1 0' \
     'byte 17 01 look 2' '1 put, output 1 7, sentence 1 1 0' 'byte 17 00 close 2' '1 put, output 0 7, sentence 1 1 1'
+
+# ---- Rules that fire everywhere ----
+
+# 0 0 to 1 0 everywhere, and once; 0 1 0 to 0 2 0 everywhere, over three tags.
+pair='20 02 24 00 01 22 00 22 00 00'
+pair_once='20 02 21 00 01 22 00 22 00 00'
+bordered='20 03 24 01 02 22 00 22 01 22 00 00'
+
+# both NAME BOOK SENTENCE RESULT [END]: by the book and by its table, with an output slice of eight bytes.
+both() {
+    local ending=${5:+ending $5 } name=$1${5:+, end tag $5}
+    call "$name" "${ending}run_book 8 $2 / $3" "$4"
+    call "$name, by its table" "${ending}run_compiled 8 $2 / $3" "$4"
+}
+
+# No tag of an old match counts for the next.
+both '0 0 to 1 0 everywhere, 3 times 0' "$pair" '00 00 00' '1 changed, output 1 0 0 7 7 7 7 7'
+both '0 0 to 1 0 everywhere, 4 times 0' "$pair" '00 00 00 00' '2 changed, output 1 0 1 0 7 7 7 7'
+both '0 0 to 1 0 everywhere, 5 times 0' "$pair" '00 00 00 00 00' '2 changed, output 1 0 1 0 0 7 7 7'
+both '0 0 to 1 0 once, 4 times 0' "$pair_once" '00 00 00 00' '1 changed, output 1 0 0 0 7 7 7 7'
+both '0 1 0 to 0 2 0 everywhere, overlapping' "$bordered" '00 01 00 01 00' '1 changed, output 0 2 0 1 0 7 7 7'
+both '0 1 0 to 0 2 0 everywhere, beside one another' "$bordered" '00 01 00 00 01 00' '2 changed, output 0 2 0 0 2 0 7 7'
+both '0 1 0 to 0 2 0 everywhere, the first and the third' "$bordered" '00 01 00 01 00 01 00' '2 changed, output 0 2 0 1 0 2 0 7'
+# Nor does the new tag: repeated use would make zeros of all.
+both '0 1 to 0 0 everywhere' '20 02 24 01 00 22 00 22 01 00' '00 01 01 01' '1 changed, output 0 0 1 1 7 7 7 7'
+# Before, between and behind matches
+both '0 0 to 1 0 everywhere, a match that ends the sentence' "$pair" '01 00 01 01 00 00' '1 changed, output 1 0 1 1 1 0 7 7'
+both '0 0 to 1 0 everywhere, two and a tag behind' "$pair" '00 00 01 00 00 01' '2 changed, output 1 0 1 1 0 1 7 7'
+both '0 0 to 1 0 everywhere, shorter than the pattern' "$pair" '00' '0 changed, output 0 7 7 7 7 7 7 7'
+both '0 0 to 1 0 everywhere, no tags' "$pair" '' '0 changed, output 7 7 7 7 7 7 7 7'
+both '0 1 0 to 0 2 0 everywhere, one tag short' "$bordered" '00 01' '0 changed, output 0 1 7 7 7 7 7 7'
+both '0 to 1 everywhere' '20 02 24 00 01 22 00 00' '00 01 00 00' '3 changed, output 1 1 1 1 7 7 7 7'
+# The longest sentence: every second tag changes, but for the last one
+longest=$(times 65535 ' 00')
+longest_made="32767 changed, output$(times 32767 ' 1 0') 0"
+call '0 0 to 1 0 everywhere, the longest sentence' "run_book 65535 $pair /$longest" "$longest_made"
+call '0 0 to 1 0 everywhere, the longest sentence, by its table' "run_compiled 65535 $pair /$longest" "$longest_made"
+call '0 0 to 1 0 everywhere, one tag more' "run_book 2 $pair /$longest 00" 'refused 13, output 7 7'
+
+# Both kinds in one book: 0 to 1 everywhere and 1 to 0 once; 0 0 to 1 0 and 1 0 to 1 1, everywhere and once
+all_then_once='20 02 24 00 01 22 00 21 00 00 22 01 00'
+once_then_all='20 02 21 00 00 22 01 24 00 01 22 00 00'
+both 'everywhere, then once' "$all_then_once" '00 01 00' '1 changed, output 0 1 1 7 7 7 7 7'
+both 'once, then everywhere' "$once_then_all" '00 01 00' '2 changed, output 1 1 1 7 7 7 7 7'
+pairs=('00 01 22 00 22 00' '01 01 22 01 22 00')
+both 'pairs, once and everywhere' "20 02 21 ${pairs[0]} 24 ${pairs[1]} 00" '00 00 00 00' '2 changed, output 1 1 0 0 7 7 7 7'
+both 'pairs, everywhere and once' "20 02 24 ${pairs[0]} 21 ${pairs[1]} 00" '00 00 00 00' '3 changed, output 1 1 1 0 7 7 7 7'
+both 'pairs, everywhere' "20 02 24 ${pairs[0]} 24 ${pairs[1]} 00" '00 00 00 00' '4 changed, output 1 1 1 1 7 7 7 7'
+both 'pairs the other way, everywhere and once' "20 02 24 ${pairs[1]} 21 ${pairs[0]} 00" '00 00 00 00' '1 changed, output 1 0 0 0 7 7 7 7'
+
+# Read: 24 opens a rule and closes the one before as 21 does
+book_read 'a rule by 24' "$pair" 'tags 2, rules 1'
+book_read 'rules by 21 and 24' "$once_then_all" 'tags 2, rules 2'
+book_read '16 rules by 24' "20 02$(times 16 ' 24 00 01 22 00') 00" 'tags 2, rules 16'
+book_read 'K 24' '20 24 00' 'tags 36, rules 0'
+book_read 'a tag 24' '20 30 24 00 01 22 24 00' 'tags 48, rules 1'
+book_read '24 before 20' '24 00 01 22 00 00' 'refused 1'
+book_read '24 behind the end' '20 02 00 24' 'refused 1 at byte 3'
+book_read '25' '20 02 25 00 01 22 00 00' 'refused 1 at byte 2'
+book_read '24, the last byte' '20 02 24' 'refused 1 at byte 3'
+book_read '24, the last byte, behind a rule' '20 02 21 00 01 22 00 24' 'refused 1 at byte 8'
+book_read '24 with one operand' '20 02 24 00' 'refused 1 at byte 4'
+book_read '24 with both operands' '20 02 24 00 01' 'refused 1 at byte 5'
+book_read '24, a new tag not below K' '20 02 24 00 02 22 00 00' 'refused 4 at byte 4'
+book_read '24, a tag not below K' '20 02 24 00 01 22 02 00' 'refused 4 at byte 6'
+book_read '24, a seventh tag' "20 02 24 00 01$(times 7 ' 22 00') 00" 'refused 3 at byte 17'
+# The faults of a rule opened by one of 21 and 24, and closed by any of 21, 24 and 00
+for opened in 21 24; do
+    for closed in 21 24 00; do
+        book_read "$opened, an empty pattern, $closed" "20 02 $opened 00 01 $closed" 'refused 3 at byte 5'
+        book_read "$opened, a place outside the pattern, $closed" "20 02 $opened 01 00 22 00 $closed" 'refused 5 at byte 7'
+        book_read "$opened, the same tag, $closed" "20 02 $opened 00 00 22 00 $closed" 'refused 6 at byte 7'
+    done
+done
+# A seventeenth rule, after the faults of the sixteenth
+for sixteen in "$(times 16 ' 21 00 01 22 00')" "$(times 16 ' 24 00 01 22 00')" "$(times 8 ' 24 00 01 22 00 21 00 01 22 00')"; do
+    for opened in 21 24; do
+        book_read "${sixteen:1:2} and a seventeenth rule by $opened" "20 02$sixteen $opened" 'refused 7 at byte 82'
+        compile "${sixteen:1:2} and a whole seventeenth rule by $opened" 256 "20 02$sixteen $opened 00 01 22 00 00" 'refused 7'
+    done
+done
+fifteen="20 02$(times 15 ' 24 00 01 22 00')"
+book_read 'a seventeenth rule by 24 behind an empty pattern' "$fifteen 24 00 01 24" 'refused 3 at byte 80'
+book_read 'a seventeenth rule by 24 behind a place outside' "$fifteen 24 01 01 22 00 24" 'refused 5 at byte 82'
+book_read 'a seventeenth rule by 24 behind the same tag' "$fifteen 24 00 00 22 00 24" 'refused 6 at byte 82'
+
+# With 2 for the full stop: 0 0 to 1 0; 0 2 to 1 2, which ends with it; and 0 0 to 1 0 once and 1 0 to 1 1 everywhere.
+both '0 0 to 1 0 everywhere' "20 03 24 ${pairs[0]} 00" '00 02 00 00 00 02 00 00' '2 changed, output 0 2 1 0 0 2 1 0' 2
+both '0 0 to 1 0 everywhere' "20 03 24 ${pairs[0]} 00" '00 00 00 00 02 00 00 00' '3 changed, output 1 0 1 0 2 1 0 0' 2
+both '0 2 to 1 2 everywhere' '20 03 24 00 01 22 00 22 02 00' '00 02 00 02 00' '2 changed, output 1 2 1 2 0 7 7 7' 2
+both '0 2 to 1 2 everywhere' '20 03 24 00 01 22 00 22 02 00' '00 02 00 02 00' '2 changed, output 1 2 1 2 0 7 7 7' 255
+both 'pairs, once and everywhere' "20 03 21 ${pairs[0]} 24 ${pairs[1]} 00" '00 00 00 02 00 00 00' '4 changed, output 1 1 0 2 1 1 0 7' 2
+both 'pairs, once and everywhere' "20 03 21 ${pairs[0]} 24 ${pairs[1]} 00" '00 00 00 02 00 00 00' '2 changed, output 1 1 0 2 0 0 0 7' 255
+gives_14 '24, before the last place' 2 '20 03 24 01 01 22 02 22 00 00'
+gives_14 '24, changed' 2 '20 03 24 01 01 22 00 22 02 00'
+gives_14 '24, made' 2 '20 03 24 00 02 22 00 00'
+gives_14 '24, made by the second rule' 2 '20 03 21 00 01 22 00 24 00 02 22 01 00'
+
+# one_rules NAME MORE LINE [END]: all rules of LINE, for cases/calls.c, have tables with MORE states than their patterns have tags. With n of 0
+# and 1 in a pattern there are n times 2^n; one state can't be one too many.
+one_rules() {
+    local n length states line result=
+    read -ra line <<<"$3"
+    for ((n = 1; n <= line[2]; n++)); do
+        length=$((n + ${#line[@]} - 3)) states=$((n + ${#line[@]} - 3 + $2))
+        result+="${result:+; }$((n << n)) of length $length, states $states, $((states == 1 ? 0 : n << n)) refused below"
+    done
+    call "$1" "${4:+ending $4 }one_rules $3" "$result"
+}
+
+one_rules 'one rule everywhere' 0 '24 02 6'
+one_rules 'one rule once' 1 '21 02 6'
+one_rules 'one rule everywhere, end tag 2' 0 '24 03 6' 2
+one_rules 'one rule once, end tag 2' 1 '21 03 6' 2
+one_rules 'one rule everywhere with the end tag 2 behind' 0 '24 03 5 02' 2
+one_rules 'one rule once with the end tag 2 behind' 0 '21 03 5 02' 2
+one_rules 'one rule everywhere with 2 behind' 0 '24 03 5 02'
+one_rules 'one rule once with 2 behind' 1 '21 03 5 02'
+
+compile '0 0 to 1 0 everywhere' 256 "$pair" "states 2, bytes 33, $agree"
+compile '0 0 to 1 0 everywhere, ceiling 2' 2 "$pair" "states 2, bytes 33, $agree"
+compile '0 0 to 1 0 everywhere, ceiling 1' 1 "$pair" 'refused 10 at rule 1'
+compile '0 0 to 1 0 once, ceiling 3' 3 "$pair_once" "states 3, bytes 45, $agree"
+compile '0 0 to 1 0 once, ceiling 2' 2 "$pair_once" 'refused 10 at rule 1'
+# With both kinds: as many states as the whole needs, and the first leading part that needs more than the ceiling.
+compile 'everywhere, then once, ceiling 2' 2 "$all_then_once" "states 2, bytes 29, $agree"
+compile 'everywhere, then once, ceiling 1' 1 "$all_then_once" 'refused 10 at rule 2'
+compile 'once, then everywhere, ceiling 2' 2 "$once_then_all" "states 1, bytes 17, $agree"
+compile 'once, then everywhere, ceiling 1' 1 "$once_then_all" 'refused 10 at rule 1'
+
+# The table of 0 0 to 1 0 everywhere, loaded and typed over
+table='30 02 00 02 31 00 33 00 01 33 00 00 34 01 31 01 32 00 33 00 00 34 01 34 00 33 00 00 34 00 34 01 00'
+load '0 0 to 1 0 everywhere' 13 "$table" '13 numbers, loaded 2 0 0 7 0 1 257 1 0 1 258 1 65538'
+typing '0 0 to 1 0 everywhere, typed' "$table" open '0 put, sentence 0 0 0' \
+    'give 0 3' '0 put, output 7 7 7, sentence 1 1 0' 'look 2' '1 put, output 0 7, sentence 1 1 0' \
+    'give 0 3' '2 put, output 1 0 7, sentence 0 2 0' 'look 2' '0 put, output 7 7, sentence 0 2 0' \
+    'give 0 3' '0 put, output 7 7 7, sentence 1 3 0' 'give 1 3' '2 put, output 0 1 7, sentence 0 4 0' \
+    'give 0 3' '0 put, output 7 7 7, sentence 1 5 0' 'close 2' '1 put, output 0 7, sentence 1 5 1'
