@@ -1,9 +1,10 @@
 /* nedzsuka: books of part-of-speech tag rules, and their smallest sequential transducers as tables.
 
    A tag is a number from 0 to K - 1. A rule changes one tag of a pattern of 1 to 6 tags: the leftmost occurrence of the pattern in the
-   sentence, once; where it occurs nowhere, the sentence stays as it is. A book applies its rules in order, each to the result of the
-   one before. A table is a sequential transducer: it starts in state 0, reads the tags once from left to right, puts out zero or more
-   tags at each, and at the end the final word of its state. A loaded table is a table as numbers, made for running.
+   sentence, once; where it occurs nowhere, the sentence stays as it is. A rule that fires everywhere goes on: after a match, matching
+   begins again behind the match's last tag, and no tag of the old match counts for the next. A book applies its rules in order, each to
+   the result of the one before. A table is a sequential transducer: it starts in state 0, reads the tags once from left to right, puts
+   out zero or more tags at each, and at the end the final word of its state. A loaded table is a table as numbers, made for running.
 
    Which call is for what: nedzsuka_run_book for a book that is still edited; nedzsuka_run_table for a table that is used once;
    nedzsuka_load_table, once, and then nedzsuka_run_loaded for a table that is run on every sentence; nedzsuka_open, nedzsuka_give,
@@ -39,7 +40,8 @@
    - While a call reads a slice, nothing writes to it. Between calls a host may write what it likes, also over a loaded table.
 
    Bytes of a book (hexadecimal): 20 K opens it; 21 p t opens a rule that puts tag t in place p, counted from 0, and closes the rule
-   before; 22 t is the next tag of the rule's pattern; 00 closes the last rule and the book, and is the last byte.
+   before; 24 p t does the same for a rule that fires everywhere; 22 t is the next tag of the rule's pattern; 00 closes the last rule and
+   the book, and is the last byte. A book may mix both kinds of rules.
 
    Bytes of a table: 30 K, then the number of states S in two bytes, the high one first; for each state 31 with the number of held
    tags, 32 t for each of them, and for each tag 0 to K - 1 33 with the next state in two bytes, followed by 34 t for each tag put out;
@@ -86,7 +88,7 @@ enum nedzsuka_refusal_number {
     NEDZSUKA_BAD_TAG = 4,            /* book, sentence or give: a tag or new tag not below K */
     NEDZSUKA_BAD_PLACE = 5,          /* book: p not below the pattern's length when the rule closes */
     NEDZSUKA_SAME_TAG = 6,           /* book: the new tag is the tag at p when the rule closes */
-    NEDZSUKA_TOO_MANY_RULES = 7,     /* book: a seventeenth 21 */
+    NEDZSUKA_TOO_MANY_RULES = 7,     /* book: a seventeenth rule, by 21 or 24 */
     NEDZSUKA_BAD_CEILING = 8,        /* compile: a ceiling outside 1 to 256 */
     NEDZSUKA_SHORT_WORK = 9,         /* compile: fewer work entries than nedzsuka_work_entries says */
     NEDZSUKA_TOO_MANY_STATES = 10,   /* compile: the first i rules need more states than the ceiling; i is the answer's value */
