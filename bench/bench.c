@@ -43,7 +43,8 @@ static const struct workload typing[TYPING] = {
     [ONE_GIVE] = {"give", GIVE, RANDOM, OF_20},
     [ONE_LOOK] = {"look", LOOK, RANDOM, OF_20},
 };
-/* What is timed of the library alone: each of these with each length, with sentences in which rules fire and in which none does. */
+/* What is timed of the library alone: each of these with each length, with sentences in which rules fire and in which none does. For books
+   with a rule that fires everywhere also beside plain C, with sentences full of matches. */
 static const enum call runs[] = {RUN_BOOK, RUN_TABLE, RUN_LOADED};
 enum { BESIDE = sizeof beside / sizeof *beside, RUNS = sizeof runs / sizeof *runs };
 
@@ -53,7 +54,7 @@ struct figures {
     size_t book_len;
     uint64_t ceiling;
     int states;
-    double beside[BESIDE][BOTH], typing[TYPING][BOTH], alone[KINDS][LENGTHS][RUNS];
+    double beside[BESIDE][BOTH], typing[TYPING][BOTH], alone[KINDS][LENGTHS][RUNS], full[LENGTHS][RUNS][BOTH];
     double fresh, again; /* a compile whose work slice is fresh memory, and the next one */
 };
 
@@ -122,7 +123,7 @@ static void agree(const char *name, const struct workload *load)
         fprintf(stderr, "bench: %s, %s: the library and plain C differ\n", name, load->heading);
         exit(1);
     }
-    if (load->kind != RANDOM && (nedzsuka_value(answer) > 0) != (load->kind == FIRING)) {
+    if (load->kind != RANDOM && (nedzsuka_value(answer) > 0) != (load->kind != QUIET)) {
         fprintf(stderr, "bench: %s, %s: not the changes that the sentence is for\n", name, load->heading);
         exit(1);
     }
@@ -181,6 +182,27 @@ static void measure_alone(struct figures *f, enum kind kind)
         }
 }
 
+static int fires_everywhere(const struct figures *f)
+{
+    size_t i = 2;
+
+    while (f->book[i] != 0x00 && f->book[i] != 0x24)
+        i += f->book[i] == 0x22 ? 2 : 3;
+    return f->book[i] == 0x24;
+}
+
+static void measure_full(struct figures *f)
+{
+    for (int length = 0; length < LENGTHS; length++)
+        for (int i = 0; i < RUNS; i++) {
+            struct workload load = {"full of matches", runs[i], FULL, (enum length)length};
+            if (!fires_everywhere(f) || (f->states == 0 && needs_table(&load)))
+                continue;
+            agree(f->name, &load);
+            measure(&load, f->full[length][i], BOTH);
+        }
+}
+
 /* With a work slice that is as long as needed and was never touched, and again with the same. */
 static void measure_fresh(struct figures *f)
 {
@@ -214,6 +236,7 @@ static void bench(struct figures *f)
     measure_beside(f, typing, TYPING, f->typing);
     measure_alone(f, FIRING);
     measure_alone(f, QUIET);
+    measure_full(f);
     measure_fresh(f);
 }
 
@@ -305,6 +328,20 @@ static void print_alone(const struct figures *figures, int books)
         }
 }
 
+static void print_full(const struct figures *figures, int books)
+{
+    printf("\n%-42s %6s %41s %41s\n", "nanoseconds, full of matches", "tags", "book, table, loaded", "beside plain C: book, table, loaded");
+    for (int b = 0; b < books; b++)
+        for (int length = 0; length < LENGTHS && fires_everywhere(&figures[b]); length++) {
+            printf("%-42s %6zu", figures[b].name, sentence_length[length]);
+            for (int i = 0; i < RUNS; i++)
+                print_figure(figures[b].full[length][i][LIBRARY] * 1e9, 0);
+            for (int i = 0; i < RUNS; i++)
+                print_figure(ratio(figures[b].full[length][i]), 2);
+            printf("\n");
+        }
+}
+
 static void print_fresh(const struct figures *figures, int books)
 {
     printf("\n%-42s %6s %13s %13s\n", "compile in microseconds, work slice", "states", "fresh", "used before");
@@ -330,6 +367,7 @@ int main(void)
     print_beside(figures, books);
     print_typing(figures, books);
     print_alone(figures, books);
+    print_full(figures, books);
     print_fresh(figures, books);
     free(work);
     return 0;

@@ -7,7 +7,7 @@
 
 struct book {
     int tags, rules;
-    uint8_t pattern[16][6], length[16], place[16], new_tag[16];
+    uint8_t pattern[16][6], length[16], place[16], new_tag[16], everywhere[16];
 };
 
 /* ---- Books ---- */
@@ -37,6 +37,7 @@ static int open_rule(struct book *b, const uint8_t *s, size_t left)
         return 1;
     if (s[2] >= b->tags)
         return 4;
+    b->everywhere[b->rules] = s[0] == 0x24;
     b->place[b->rules] = s[1];
     b->new_tag[b->rules] = s[2];
     b->length[b->rules++] = 0;
@@ -72,10 +73,10 @@ static int read_book(const uint8_t *s, size_t n, struct book *b)
             refusal = close_rule(b);
             return refusal ? refusal : i + 1 < n;
         }
-        if (s[i] != 0x21 && s[i] != 0x22)
+        if (s[i] != 0x21 && s[i] != 0x24 && s[i] != 0x22)
             return 1;
-        refusal = s[i] == 0x21 ? open_rule(b, s + i, n - i) : add_tag(b, s + i, n - i);
-        i += s[i] == 0x21 ? 3 : 2;
+        refusal = s[i] == 0x22 ? add_tag(b, s + i, n - i) : open_rule(b, s + i, n - i);
+        i += s[i] == 0x22 ? 2 : 3;
     }
     return refusal ? refusal : 1;
 }
@@ -118,7 +119,9 @@ uint64_t plain_run_book(const uint8_t *book, size_t book_len, const uint8_t *s, 
         for (size_t at = 0; at + length <= n; at++)
             if (out[at] == b.pattern[i][0] && memcmp(out + at, b.pattern[i], length) == 0) {
                 out[at + b.place[i]] = b.new_tag[i];
-                break;
+                if (!b.everywhere[i])
+                    break;
+                at += length - 1;
             }
     }
     return differences(s, out, n) * 256;
@@ -532,7 +535,7 @@ static void rule_step(const struct book *b, int i, int j, uint8_t a, const struc
     w[j] = a;
     while (t > 0 && memcmp(w + j + 1 - t, u, (size_t)t) != 0)
         t--;
-    s->next = (uint16_t)t;
+    s->next = (uint16_t)(t == length && b->everywhere[i] ? 0 : t);
     if (t == length) {
         append(&s->out, u + b->place[i], length - b->place[i]);
         s->out.tag[0] = b->new_tag[i];
@@ -546,14 +549,14 @@ static void rule_step(const struct book *b, int i, int j, uint8_t a, const struc
 static struct machine rule_machine(const struct book *b, int i)
 {
     int length = b->length[i], p = b->place[i];
-    struct machine m = make_machine(length + 1, b->tags);
+    struct machine m = make_machine(length + !b->everywhere[i], b->tags);
 
-    for (int j = 0; j <= length; j++) {
+    for (int j = 0; j < m.states; j++) {
         m.final[j].n = 0;
         if (j > p && j < length)
             append(&m.final[j], b->pattern[i] + p, j - p);
     }
-    for (int j = 0; j <= length; j++)
+    for (int j = 0; j < m.states; j++)
         for (int a = 0; a < b->tags; a++)
             rule_step(b, i, j, (uint8_t)a, &m, step_of(&m, j, a));
     return m;

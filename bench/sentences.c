@@ -14,8 +14,8 @@ const size_t sentence_length[LENGTHS] = {20, 200, LONGEST};
 static void read_patterns(const uint8_t *book, struct patterns *p)
 {
     p->count = 0;
-    for (size_t i = 2; book[i] != 0x00; i += book[i] == 0x21 ? 3 : 2) {
-        if (book[i] == 0x21)
+    for (size_t i = 2; book[i] != 0x00; i += book[i] == 0x22 ? 2 : 3) {
+        if (book[i] != 0x22)
             p->length[p->count++] = 0;
         else
             p->tags[p->count - 1][p->length[p->count - 1]++] = book[i + 1];
@@ -71,6 +71,13 @@ static void plant(const struct patterns *p, uint8_t *s, size_t n)
     }
 }
 
+static void fill(const struct patterns *p, uint8_t *s)
+{
+    for (size_t i = 0, at = 0; at < LONGEST; i = (i + 1) % p->count)
+        for (size_t t = 0; t < p->length[i] && at < LONGEST; t++)
+            s[at++] = p->tags[i][t];
+}
+
 void make_sentences(const uint8_t *book, struct sentences *sentences)
 {
     struct patterns p;
@@ -82,10 +89,13 @@ void make_sentences(const uint8_t *book, struct sentences *sentences)
     sentences->made[RANDOM] = 1;
     sentences->made[QUIET] = make_quiet(&p, book[1], sentences->tags[QUIET][0]);
     sentences->made[FIRING] = sentences->made[QUIET] && p.count > 0;
+    sentences->made[FULL] = p.count > 0;
     for (int length = 0; length < LENGTHS; length++) {
         memcpy(sentences->tags[RANDOM][length], sentences->tags[RANDOM][0], LONGEST);
         memcpy(sentences->tags[QUIET][length], sentences->tags[QUIET][0], LONGEST);
         memcpy(sentences->tags[FIRING][length], sentences->tags[QUIET][0], LONGEST);
         plant(&p, sentences->tags[FIRING][length], sentence_length[length]);
+        if (sentences->made[FULL])
+            fill(&p, sentences->tags[FULL][length]);
     }
 }

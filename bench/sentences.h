@@ -5,7 +5,7 @@
 #include <stddef.h>
 #include <stdint.h>
 
-enum kind { RANDOM, FIRING, QUIET, KINDS };
+enum kind { RANDOM, FIRING, QUIET, FULL, KINDS };
 enum length { OF_20, OF_200, OF_65535, LENGTHS, LONGEST = 65535 };
 
 struct sentences {
@@ -15,8 +15,8 @@ struct sentences {
 
 extern const size_t sentence_length[LENGTHS];
 
-/* Sentences for a valid book: random tags; tags out of which no rule's pattern is made; and these with the patterns of the rules, in
-   their order, at even distances, as many as there is room for. */
+/* Sentences for a valid book: random tags; tags out of which no rule's pattern is made; these with the patterns of the rules, in
+   their order, at even distances, as many as there is room for; and the patterns alone, again and again, one right behind the other. */
 void make_sentences(const uint8_t *book, struct sentences *sentences);
 
 #endif
