@@ -17,9 +17,6 @@ pub record Rule : Type 0 where
   pub place : ℕ
   pub tag : ℕ
 
-abbrev pub rule : Kind → List ℕ → ℕ → ℕ → Rule
-rule k u p t = record { kind = k; pattern = u; place = p; tag = t }
-
 -- "v is u with the tag at p replaced"
 abbrev pub replaced : Rule → List ℕ
 replaced r = set (r .pattern) (r .place) (r .tag)

@@ -10,7 +10,8 @@ use lib.Seq.{getD-drop}
 use Rattle.words.specs.Word.{prefix}
 use Rattle.words.specs.Parts.{Begun}
 use Rattle.words.proofs.Word.{prefix-split}
-use Rattle.cascades.specs.Rule.{Kind, everywhere, rule}
+use Rattle.cascades.specs.Rule.{Kind, everywhere}
+use Rattle.cascades.specs.Value.{rule}
 use Rattle.cascades.specs.Rewrite.{behind, apply}
 use Rattle.cascades.proofs.Rewrite.{prefix-short, first-other, begun-other, begun-short, begun-match}
 use Rattle.leftmost.specs.Leftmost.{Nowhere, Absent, Present, Apart, Together, FirstPlace}

@@ -6,7 +6,8 @@ use mathlib.Core.List.{List}
 use lib.ListN.{length, drop, getD}
 use Rattle.words.specs.Word.{prefix}
 use Rattle.words.specs.Parts.{Begun}
-use Rattle.cascades.specs.Rule.{everywhere, rule}
+use Rattle.cascades.specs.Rule.{everywhere}
+use Rattle.cascades.specs.Value.{rule}
 use Rattle.cascades.specs.Rewrite.{apply}
 
 -- u, which is not empty, has room at every place from a up to b

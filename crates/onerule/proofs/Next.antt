@@ -15,7 +15,8 @@ use Rattle.words.proofs.Word.{prefix-front}
 use Rattle.words.proofs.Overlap.{overlap-prefix}
 use Rattle.borders.specs.Border.{border}
 use Rattle.borders.proofs.Border.{overlap-grown, border-le, border-below, grown-none, grown-shorter, grown-longer, grown}
-use Rattle.cascades.specs.Rule.{Kind, once, everywhere, rule}
+use Rattle.cascades.specs.Rule.{Kind, once, everywhere}
+use Rattle.cascades.specs.Value.{rule}
 use Rattle.cascades.specs.Ending.{before}
 use Rattle.minimal.specs.Matcher.{moves}
 use Rattle.minimal.specs.OneRule.{states, borders}

@@ -5,7 +5,8 @@ use mathlib.Core.Path.{_≡_, sym, _∙_, subst}
 use mathlib.Core.Bool.{false}
 use mathlib.Core.List.{List}
 use lib.ListN.{length}
-use Rattle.cascades.specs.Rule.{Kind, rule}
+use Rattle.cascades.specs.Rule.{Kind}
+use Rattle.cascades.specs.Value.{rule}
 use Rattle.cascades.specs.Ending.{before}
 use Rattle.transducers.specs.Ended.{ended}
 use Rattle.transducers.proofs.Tabulate.{length-table}

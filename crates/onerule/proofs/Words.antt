@@ -11,7 +11,8 @@ use lib.Dec.{eqb}
 use lib.ListN.{length, set, take, drop, length-append, length-drop, length-take, length-set, drop-of-length-le}
 use lib.Seq.{drop-cons, getD-set-same, drop-set-lt, take-length, take-all, take-append-le, take-take, take-add, drop-at, length-take-le}
 use Rattle.words.specs.Overlap.{overlap}
-use Rattle.cascades.specs.Rule.{Kind, rule}
+use Rattle.cascades.specs.Rule.{Kind}
+use Rattle.cascades.specs.Value.{rule}
 use Rattle.cascades.specs.Ending.{before}
 use Rattle.transducers.specs.Ended.{ended}
 use Rattle.minimal.specs.Matcher.{held, moves}

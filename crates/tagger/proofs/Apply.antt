@@ -8,8 +8,8 @@ use lib.ListN.{length, drop, set, getD, length-drop}
 use Rattle.words.specs.Parts.{Begun}
 use Rattle.words.proofs.Word.{prefix-length}
 use Rattle.words.proofs.Parts.{begun-start, begun-once}
-use Rattle.cascades.specs.Rule.{Kind, once, everywhere, Rule, rule}
-use Rattle.cascades.specs.Value.{kindOf, ruleOf}
+use Rattle.cascades.specs.Rule.{Kind, once, everywhere, Rule}
+use Rattle.cascades.specs.Value.{kindOf, ruleOf, rule}
 use Rattle.cascades.specs.declared.Rule.{Rule as Value}
 use Rattle.cascades.specs.Rewrite.{apply}
 use Rattle.books.specs.Arrays.{Arrays, placeAt, tagAt, ruleAt}

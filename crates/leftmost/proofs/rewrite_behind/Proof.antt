@@ -6,7 +6,8 @@ use mathlib.Core.List.{List}
 use borrow.Author.Needs.{needs}
 use lib.ListN.{length}
 use Rattle.words.specs.Parts.{Begun}
-use Rattle.cascades.specs.Rule.{everywhere, rule}
+use Rattle.cascades.specs.Rule.{everywhere}
+use Rattle.cascades.specs.Value.{rule}
 use Rattle.cascades.specs.Rewrite.{apply}
 use Rattle.cascades.proofs.Rewrite.{begun-short}
 use Rattle.leftmost.proofs.Leftmost.{GoesOn, absent-nowhere, begun-nowhere}
