@@ -2,17 +2,17 @@
 -- behind each match. Both ways.
 use Prim.Native.Nat.{ℕ, zero, suc, _+_, _≤_, _<_}
 use native.Mathlib.Omega.{arith}
-use mathlib.Core.Path.{_≡_, refl, sym, ap, ap₂, _∙_, subst}
+use mathlib.Core.Path.{_≡_, refl, sym, ap, _∙_, subst}
 use mathlib.Core.Logic.{_⊎_, inl, inr, _↔_}
-use mathlib.Core.Bool.{Bool, true, false, false≢true}
+use mathlib.Core.Bool.{Bool, true, false}
 use mathlib.Core.List.{List, [], _∷_, _++_, append-cancel-left}
 use lib.ListN.{length, take, drop, length-append, length-set}
 use lib.Seq.{take-at}
 use Rattle.words.specs.Word.{prefix, Prefix}
-use Rattle.words.proofs.Word.{prefix-split, prefix-other, prefix-append}
+use Rattle.words.proofs.Word.{prefix-split, prefix-other}
 use Rattle.cascades.specs.Rule.{once, everywhere, Rule, replaced}
 use Rattle.cascades.specs.Rewrite.{behind, apply}
-use Rattle.cascades.specs.Leftmost.{OccursAt, Occurs, Leftmost, Behavior, Everywhere, nowhere, match}
+use Rattle.cascades.specs.Leftmost.{OccursAt, Occurs, Behavior, Everywhere, nowhere, match}
 use Rattle.cascades.proofs.Rewrite.{apply-other, apply-front}
 
 -- no occurrence in x u y begins before x ends

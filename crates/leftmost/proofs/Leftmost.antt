@@ -113,6 +113,26 @@ module _ (u s : List ℕ) where
       by (yes d) = subst (λ (m : ℕ). prefix u (drop m s) ≡ false) (sym d) e
       by (no d) = f j k (omega arith)
 
+  pub nowhere-then : (a b c : ℕ) → Nowhere u s a b → Nowhere u s b c → Nowhere u s a c
+  nowhere-then a b c f g i x y = by (decLt i b)
+    where
+      by : Dec (i < b) → prefix u (drop i s) ≡ false
+      by (yes l) = f i x l
+      by (no l) = g i (omega arith) y
+
+  -- at four places more the first tag does not stand
+  pub nowhere-four : (i : ℕ) → 0 < length u → i + 4 ≤ length s → Nowhere u s 0 i → (getD s i 0 ≡ getD u 0 0 → ⊥) → (getD s (i + 1) 0 ≡ getD u 0 0 → ⊥)
+      → (getD s (i + 2) 0 ≡ getD u 0 0 → ⊥) → (getD s (i + 3) 0 ≡ getD u 0 0 → ⊥) → Nowhere u s 0 (i + 4)
+  nowhere-four i h r f w x y z =
+      let next : (j : ℕ) → j < length s → (getD s j 0 ≡ getD u 0 0 → ⊥) → Nowhere u s 0 j → Nowhere u s 0 (j + 1) =
+      λ j l d g. nowhere-more 0 j g (first-other u s j h l d) in
+      let two : i + 1 + 1 ≡ i + 2 = omega arith in
+      let three : i + 2 + 1 ≡ i + 3 = omega arith in
+      let four : i + 3 + 1 ≡ i + 4 = omega arith in
+      subst (Nowhere u s 0) four (next (i + 3) (omega arith) z
+      (subst (Nowhere u s 0) three (next (i + 2) (omega arith) y
+      (subst (Nowhere u s 0) two (next (i + 1) (omega arith) x (next i (omega arith) w f))))))
+
   -- u has no room from b on
   nowhere-short : (a b : ℕ) → length s < b + length u → Nowhere u s a b → Nowhere u s a (length s)
   nowhere-short a b h f i x y = by (decLt i b)

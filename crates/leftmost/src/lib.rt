@@ -117,39 +117,23 @@ fn sweep(s: &[u8], to: usize, u: &[u8]) -> usize
     to
 }
 
-// The same, place by place and two of them a round.
+// The same. It looks at four places a round for u's first tag, and place by place where it stands.
 fn seek_front(s: &[u8], to: usize, u: &[u8]) -> usize
     requires { ⌜ Places (now u) (now s) 0 to ⌝ }
     ensures { λ r. ⌜ FirstPlace (now (u .entry)) (now (s .entry)) 0 to r ⌝ }
 {
-    let w = u.len() - 1;
     let first = u[0];
-    let last = u[w];
     let mut i = 0;
-    while i + 1 < to {
-        if s[i] == first {
-            if s[i + w] == last {
-                if begins(s, i, u) {
-                    return i;
-                }
+    while i + 4 <= to {
+        if s[i] == first || s[i + 1] == first || s[i + 2] == first || s[i + 3] == first {
+            let r = seek(s, i, i + 4, u);
+            if r < i + 4 {
+                return r;
             }
         }
-        let next = i + 1;
-        if s[next] == first {
-            if s[next + w] == last {
-                if begins(s, next, u) {
-                    return next;
-                }
-            }
-        }
-        i += 2;
+        i += 4;
     }
-    if i < to {
-        if begins(s, i, u) {
-            return i;
-        }
-    }
-    to
+    seek(s, i, to, u)
 }
 
 // The first place up to `to` at which u begins, or `to`.

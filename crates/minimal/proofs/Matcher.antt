@@ -249,13 +249,6 @@ module _ (row : List ℕ) (place tag : ℕ) (front : List ℕ → Bool) (F : Fro
             ∙ ap (λ (w : List ℕ). before front t ++ w) (rest y y-front few)
             ∙ sym (rewrites-passes row place tag front F R G W t x (omega (arith, t-length)))
 
-    -- from the start
-    pub does-matching : (x : List ℕ) → puts (matching row place tag M) 0 x ≡ R x
-    does-matching x =
-        ap (λ (s : ℕ). puts (matching row place tag M) s x) (sym (C .start))
-        ∙ ap (λ (w : List ℕ). w ++ puts (matching row place tag M) (code []) x) (sym (take-all place [] (omega arith)))
-        ∙ does-before x [] (F .none) (omega (arith, F .inside))
-
 -- ---- sound, and what is held
 
 module _ (k : ℕ) (row : List ℕ) (place tag : ℕ) (front : List ℕ → Bool) (F : Fronts row place front) (M : Matcher) (code : List ℕ → ℕ) (C : Matches row place front M code)

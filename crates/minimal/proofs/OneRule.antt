@@ -8,7 +8,7 @@ use mathlib.Core.Logic.{_⊎_, inl, inr}
 use mathlib.Core.List.{List, [], _∷_, _++_, append-nil, append-cancel-left}
 use mathlib.Core.Bool.{Bool, true, false}
 use lib.ListN.{length, take, drop, getD, set, length-append, length-drop, length-set, take-append-drop, drop-of-length-le}
-use lib.Seq.{take-all, take-take, drop-append-seam, take-set-le, getD-set-same, getD-take, take-suc, drop-cons, length-take-le}
+use lib.Seq.{take-all, take-take, take-set-le, getD-set-same, getD-take, take-suc, drop-cons, length-take-le}
 use Rattle.words.specs.Word.{prefix}
 use Rattle.words.specs.Front.{first}
 use Rattle.words.specs.Overlap.{overlap}

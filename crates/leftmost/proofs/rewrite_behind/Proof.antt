@@ -1,14 +1,11 @@
 -- `leftmost::rewrite_behind` meets its contract.
-use Prim.Native.Nat.{ℕ, _+_, _-_, _≤_}
+use Prim.Native.Nat.{_+_, _-_, _≤_}
 use native.Mathlib.Omega.{arith}
 use mathlib.Core.Path.{_≡_, refl, _∙_}
-use mathlib.Core.List.{List}
 use borrow.Author.Needs.{needs}
 use lib.ListN.{length}
-use Rattle.words.specs.Parts.{Begun}
 use Rattle.cascades.specs.Rule.{everywhere}
 use Rattle.cascades.specs.Value.{rule}
-use Rattle.cascades.specs.Rewrite.{apply}
 use Rattle.cascades.proofs.Rewrite.{begun-short}
 use Rattle.leftmost.proofs.Leftmost.{GoesOn, absent-nowhere, begun-nowhere}
 use Rattle.leftmost.proofs.rewrite_behind.Statement.{statement}

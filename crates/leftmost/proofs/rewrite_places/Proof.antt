@@ -1,9 +1,8 @@
 -- `leftmost::rewrite_places` meets its contract.
-use Prim.Native.Nat.{ℕ, _+_, _-_, _≤_}
+use Prim.Native.Nat.{_+_, _-_, _≤_}
 use native.Mathlib.Omega.{arith}
 use mathlib.Core.Path.{_≡_, refl, _∙_}
-use borrow.Author.Needs.{needs}
-use lib.ListN.{length, set, length-set}
+use lib.ListN.{length, length-set}
 use Rattle.cascades.specs.Rule.{everywhere}
 use Rattle.leftmost.proofs.Leftmost.{GoesOn, begun-there, found-match}
 use Rattle.leftmost.proofs.rewrite_places.Statement.{statement}

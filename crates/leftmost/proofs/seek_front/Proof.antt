@@ -2,35 +2,27 @@
 use Prim.Native.Nat.{_+_, _-_, _≤_}
 use native.Mathlib.Omega.{arith}
 use borrow.Author.Needs.{needs}
+use borrow.Author.Tests.{eqb-false}
 use mathlib.Core.Logic.{⊎-elim}
-use mathlib.Core.Path.{_≡_, _∙_, sym, subst}
-use lib.ListN.{length}
-use Rattle.cascades.proofs.Rewrite.{first-other}
 use Rattle.leftmost.specs.Leftmost.{Nowhere}
-use Rattle.leftmost.proofs.Leftmost.{nowhere-none, nowhere-more, tag-other}
+use Rattle.leftmost.proofs.Leftmost.{nowhere-none, nowhere-then, nowhere-four}
 use Rattle.leftmost.proofs.seek_front.Statement.{statement}
 use Rattle.leftmost.proofs.seek_front.Tie as tie
 use Rattle.leftmost.proofs.seek_front.Reads as reads
 use Rattle.leftmost.proofs.seek_front.Lts as lts
-use Rattle.leftmost.proofs.begins.Reads as begins-reads
+use Rattle.leftmost.proofs.seek.Reads as seek-reads
 
 abbrev Inv-loop : tie.InvT-loop
-Inv-loop s to u w first last i₀ i = (i ≤ to) × Nowhere u s 0 i
+Inv-loop s to u first i₀ i = (i ≤ to) × Nowhere u s 0 i
 
 abbrev μ-loop : tie.MeasureT-loop
-μ-loop s to u w first last i₀ i = to - i
-
-sub-w : tie.Need-sub-w Inv-loop μ-loop
-sub-w c = search needs
+μ-loop s to u first i₀ i = to - i
 
 shared-slice-read-first : tie.Need-shared-slice-read-first Inv-loop μ-loop
 shared-slice-read-first c = search needs
 
-shared-slice-read-last : tie.Need-shared-slice-read-last Inv-loop μ-loop
-shared-slice-read-last c = search needs
-
 loop-holds : tie.Need-loop-holds Inv-loop μ-loop
-loop-holds c = let a = c .before .before .before .before .args in (omega arith, nowhere-none (a .u .now) (a .s .now) 0 0 (omega arith))
+loop-holds c = let a = c .before .before .before .args in (omega arith, nowhere-none (a .u .now) (a .s .now) 0 0 (omega arith))
 
 add-loop : tie.Need-add-loop Inv-loop μ-loop
 add-loop c = search needs
@@ -44,43 +36,37 @@ add-if2 c = search needs
 shared-slice-read-if2 : tie.Need-shared-slice-read-if2 Inv-loop μ-loop
 shared-slice-read-if2 c = search needs
 
-begins-requires : tie.Need-begins-requires Inv-loop μ-loop
-begins-requires c κs = search needs
+add-if3 : tie.Need-add-if3 Inv-loop μ-loop
+add-if3 c = search needs
 
-returns : tie.Need-returns Inv-loop μ-loop
-returns c =
-    let l = c .before .before .before .before .before .before .before .loop in
-    record { after = omega arith; inside = omega arith; passed = l .inv .1; here = λ h. sym (c .before .begins .ensures) ∙ c .if3 .taken }
+shared-slice-read-if3 : tie.Need-shared-slice-read-if3 Inv-loop μ-loop
+shared-slice-read-if3 c = search needs
 
-add-next : tie.Need-add-next Inv-loop μ-loop
-add-next c = search needs
+add-if4 : tie.Need-add-if4 Inv-loop μ-loop
+add-if4 c = search needs
 
 shared-slice-read-if4 : tie.Need-shared-slice-read-if4 Inv-loop μ-loop
 shared-slice-read-if4 c = search needs
 
+add-seek : tie.Need-add-seek Inv-loop μ-loop
+add-seek c = search needs
+
+seek-requires : tie.Need-seek-requires Inv-loop μ-loop
+seek-requires c κs = record { some = omega arith; order = omega arith; room = omega arith }
+
 add-if5 : tie.Need-add-if5 Inv-loop μ-loop
 add-if5 c = search needs
 
-shared-slice-read-if5 : tie.Need-shared-slice-read-if5 Inv-loop μ-loop
-shared-slice-read-if5 c = search needs
-
-begins-requires-2 : tie.Need-begins-requires-2 Inv-loop μ-loop
-begins-requires-2 c κs = search needs
-
-returns-2 : tie.Need-returns-2 Inv-loop μ-loop
-returns-2 c =
-    let a = c .before .before .before .before .before .before .before .before .before .before .before .before .before .before .args in
-    let l = c .before .before .before .before .before .before .before .before .before .loop in
+returns : tie.Need-returns Inv-loop μ-loop
+returns c =
+    let a = c .before .before .before .before .before .before .before .before .before .args in
+    let l = c .before .before .before .before .before .loop in
+    let f = c .before .seek in
     record {
       after = omega arith;
       inside = omega arith;
-      passed = nowhere-more (a .u .now) (a .s .now) 0 (l .i) (l .inv .1) (⊎-elim
-          (λ w. sym (w .3 .ensures) ∙ w .4 .left)
-          (⊎-elim
-          (λ w. tag-other (a .u .now) (a .s .now) (l .i) (length (a .u .now) - 1) (omega arith) (w .2 .left))
-          (λ w. first-other (a .u .now) (a .s .now) (l .i) (omega arith) (omega arith) (w .left)))
-          (c .before .before .before .before .before .before .if1 .came));
-      here = λ h. sym (c .before .begins2 .ensures) ∙ c .if6 .taken;
+      passed = nowhere-then (a .u .now) (a .s .now) 0 (l .i) (f .result) (l .inv .1) (f .ensures .passed);
+      here = λ h. f .ensures .here (omega arith);
     }
 
 add-i : tie.Need-add-i Inv-loop μ-loop
@@ -91,49 +77,29 @@ loop-less c = search needs
 
 loop-again : tie.Need-loop-again Inv-loop μ-loop
 loop-again c =
-    let a = c .before .before .before .before .before .before .before .before .before .before .args in
-    let l = c .before .before .before .before .before .loop in
-    let two : l .i + 1 + 1 ≡ l .i + 2 = omega arith in (
+    let a = c .before .before .before .before .before .before .before .args in
+    let l = c .before .before .before .loop in (
       omega arith,
-      subst (Nowhere (a .u .now) (a .s .now) 0) two
-          (nowhere-more (a .u .now) (a .s .now) 0 (l .i + 1) (nowhere-more (a .u .now) (a .s .now) 0 (l .i) (l .inv .1) (⊎-elim
-          (λ w. sym (w .3 .ensures) ∙ w .4 .left)
-          (⊎-elim
-          (λ w. tag-other (a .u .now) (a .s .now) (l .i) (length (a .u .now) - 1) (omega arith) (w .2 .left))
-          (λ w. first-other (a .u .now) (a .s .now) (l .i) (omega arith) (omega arith) (w .left)))
-          (c .before .before .if1 .came)))
-          (⊎-elim
-          (λ w. sym (w .3 .ensures) ∙ w .4 .left)
-          (⊎-elim
-          (λ w. tag-other (a .u .now) (a .s .now) (l .i + 1) (length (a .u .now) - 1) (omega arith) (w .2 .left))
-          (λ w. first-other (a .u .now) (a .s .now) (l .i + 1) (omega arith) (omega arith) (w .left)))
-          (c .if4 .came))),
+      ⊎-elim
+          (λ w. nowhere-then (a .u .now) (a .s .now) 0 (l .i) (l .i + 4) (l .inv .1) (λ k x y. w .1 .ensures .passed k x (omega arith)))
+          (λ w. nowhere-four (a .u .now) (a .s .now) (l .i) (omega arith) (omega arith) (l .inv .1) (w .0 .left) (eqb-false _ _ (w .2 .left)) (eqb-false _ _ (w .4 .left)) (eqb-false _ _ (w .6 .left)))
+          (c .if1 .came),
     )
 
-begins-requires-3 : tie.Need-begins-requires-3 Inv-loop μ-loop
-begins-requires-3 c κs = search needs
+seek-requires-2 : tie.Need-seek-requires-2 Inv-loop μ-loop
+seek-requires-2 c κs = let l = c .before .loop in record { some = omega arith; order = l .inv .0; room = omega arith }
 
-returns-3 : tie.Need-returns-3 Inv-loop μ-loop
-returns-3 c =
-    let l = c .before .before .before .before .loop in
-    record { after = omega arith; inside = omega arith; passed = l .inv .1; here = λ h. sym (c .before .begins3 .ensures) ∙ c .if8 .taken }
-
-returns-4 : tie.Need-returns-4 Inv-loop μ-loop
-returns-4 c =
-    let a = c .before .before .before .before .before .before .before .before .before .args in
-    let l = c .before .before .before .before .loop in
-    let one : l .i + 1 ≡ a .to = omega arith in
+returns-2 : tie.Need-returns-2 Inv-loop μ-loop
+returns-2 c =
+    let a = c .before .before .before .before .before .before .args in
+    let l = c .before .before .loop in
+    let f = c .seek2 in
     record {
       after = omega arith;
-      inside = omega arith;
-      passed = subst (Nowhere (a .u .now) (a .s .now) 0) one (nowhere-more (a .u .now) (a .s .now) 0 (l .i) (l .inv .1) (sym (c .before .begins3 .ensures) ∙ c .if8 .left));
-      here = λ h. absurd (omega arith);
+      inside = f .ensures .inside;
+      passed = nowhere-then (a .u .now) (a .s .now) 0 (l .i) (f .result) (l .inv .1) (f .ensures .passed);
+      here = f .ensures .here;
     }
-
-returns-5 : tie.Need-returns-5 Inv-loop μ-loop
-returns-5 c =
-    let l = c .before .before .loop in
-    record { after = omega arith; inside = omega arith; passed = λ i k h. l .inv .1 i k (omega arith); here = λ h. absurd (omega arith) }
 
 pub seek-front-spec : {M : Type 1} → statement M
 seek-front-spec =
@@ -141,26 +107,22 @@ seek-front-spec =
     (tie.spec
     Inv-loop
     μ-loop
-    sub-w
     shared-slice-read-first
-    shared-slice-read-last
     loop-holds
     add-loop
     shared-slice-read-if1
     add-if2
     shared-slice-read-if2
-    begins-requires
-    returns
-    add-next
+    add-if3
+    shared-slice-read-if3
+    add-if4
     shared-slice-read-if4
+    add-seek
+    seek-requires
     add-if5
-    shared-slice-read-if5
-    begins-requires-2
-    returns-2
+    returns
     add-i
     loop-less
     loop-again
-    begins-requires-3
-    returns-3
-    returns-4
-    returns-5)
+    seek-requires-2
+    returns-2)

@@ -1,10 +1,9 @@
 -- `tagger::apply_pieces` meets its contract.
-use Prim.Native.Nat.{ℕ, _-_, _≤_}
+use Prim.Native.Nat.{ℕ, _-_}
 use native.Mathlib.Omega.{arith}
-use mathlib.Core.Path.{_≡_, refl, _∙_}
-use mathlib.Core.List.{List, _++_}
+use mathlib.Core.List.{List}
 use borrow.Author.Needs.{needs}
-use lib.ListN.{length, take, drop}
+use lib.ListN.{length}
 use Rattle.words.specs.Pieces.{piecewise}
 use Rattle.words.specs.Parts.{Begun}
 use Rattle.words.proofs.Parts.{lent-long, begun-start, begun-next, begun-all}

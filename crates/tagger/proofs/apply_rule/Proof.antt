@@ -1,9 +1,8 @@
 -- `tagger::apply_rule` meets its contract.
 use native.Mathlib.Omega.{arith}
 use Prim.Native.Nat.{_+_}
-use mathlib.Core.Path.{_≡_, sym, ap, _∙_}
-use lib.ListN.{length, set, length-set}
-use lib.Seq.{length-take-le}
+use mathlib.Core.Path.{sym, ap, _∙_}
+use lib.ListN.{length, length-set}
 use Rattle.cascades.proofs.Rewrite.{apply-long}
 use Rattle.books.specs.Arrays.{Arrays, holding, ruleAt}
 use Rattle.tagger.proofs.Apply.{long, inside, applied-nowhere, room, place-is, applied-once, applied-everywhere}
