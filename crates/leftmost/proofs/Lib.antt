@@ -1,2 +1,4 @@
 -- Laws of the search.
+pub mod Places
 pub mod Leftmost
+pub mod Examples

@@ -1,2 +1,3 @@
 -- The leftmost occurrence.
 pub mod Leftmost
+pub mod Places

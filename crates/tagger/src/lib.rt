@@ -12,38 +12,14 @@ ghost use lib.ListN.{length};
 ghost use Rattle.limits.specs.Limits.{no-end};
 ghost use Rattle.words.specs.Pieces.{piecewise};
 ghost use Rattle.words.specs.Parts.{Begun};
-ghost use Rattle.cascades.specs.Rewrite.{apply, applyAll};
-ghost use Rattle.books.specs.Arrays.{arrays, ruleAt, rulesOf, cascadeOf};
+ghost use Rattle.cascades.specs.Rewrite.{applyAll};
+ghost use Rattle.books.specs.Arrays.{arrays, rulesOf, cascadeOf};
 ghost use Rattle.endings.specs.Usable.{Usable};
 ghost use Rattle.sentences.specs.Run.{run, Ran};
 ghost use Rattle.sentences.specs.Parts.{Wrote};
 ghost use Rattle.tagger.specs.Run.{bookRun};
 ghost use Rattle.tagger.specs.Rules.{cascadeRun};
 ghost use Rattle.tagger.specs.Pieces.{FirstPiece};
-
-// The rule i of the arrays, applied to s: its leftmost match gets the new tag; of an everywhere rule, so do those behind it.
-fn apply_rule(
-    s: &mut [u8],
-    rows: &[[u8; PATTERN]; RULES],
-    lengths: &[usize; RULES],
-    heads: &[[u8; HEAD]; RULES],
-    i: usize,
-)
-    requires { ⌜ Usable (i + 1) (arrays rows lengths heads) ⌝ }
-    ensures { λ _. ⌜ now (s .exit) ≡ apply (ruleAt (arrays (rows .entry) (lengths .entry) (heads .entry)) i) (now (s .entry)) ⌝ }
-{
-    let row = rows[i];
-    let n = lengths[i];
-    let at = leftmost::find(s, &row[..n]);
-    if at == s.len() {
-        return;
-    }
-    let rule = books::rule_at(rows, lengths, heads, i);
-    s[at + rule.place] = rule.tag;
-    if rule.everywhere {
-        leftmost::rewrite_behind(s, at + n, &row[..n], rule.place, rule.tag);
-    }
-}
 
 // The first m rules of the arrays, applied to s in order.
 fn apply_rules(
@@ -58,7 +34,8 @@ fn apply_rules(
 {
     let mut i = 0;
     while i < m {
-        apply_rule(s, rows, lengths, heads, i);
+        let rule = books::rule_at(rows, lengths, heads, i);
+        rewriting::apply_rule(s, rule);
         i += 1;
     }
 }

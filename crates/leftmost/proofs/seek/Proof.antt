@@ -6,8 +6,8 @@ use mathlib.Core.Logic.{⊎-elim}
 use mathlib.Core.Path.{_∙_, sym}
 use lib.ListN.{length}
 use Rattle.cascades.proofs.Rewrite.{first-other}
-use Rattle.leftmost.specs.Leftmost.{Nowhere}
-use Rattle.leftmost.proofs.Leftmost.{nowhere-none, nowhere-more, tag-other}
+use Rattle.leftmost.specs.Places.{Free}
+use Rattle.leftmost.proofs.Places.{all-none, all-more, tag-other}
 use Rattle.leftmost.proofs.seek.Statement.{statement}
 use Rattle.leftmost.proofs.seek.Tie as tie
 use Rattle.leftmost.proofs.seek.Reads as reads
@@ -15,7 +15,7 @@ use Rattle.leftmost.proofs.seek.Lts as lts
 use Rattle.leftmost.proofs.begins.Reads as begins-reads
 
 abbrev Inv-loop : tie.InvT-loop
-Inv-loop s from to u w first last i₀ i = (from ≤ i) × (i ≤ to) × Nowhere u s from i
+Inv-loop s from to u w first last i₀ i = (from ≤ i) × (i ≤ to) × Free u s from i
 
 abbrev μ-loop : tie.MeasureT-loop
 μ-loop s from to u w first last i₀ i = to - i
@@ -32,7 +32,7 @@ shared-slice-read-last c = search needs
 loop-holds : tie.Need-loop-holds Inv-loop μ-loop
 loop-holds c =
     let a = c .before .before .before .before .args in
-    (omega arith, omega arith, nowhere-none (a .u .now) (a .s .now) (a .from) (a .from) (omega arith))
+    (omega arith, omega arith, all-none _ (a .from) (a .from) (omega arith))
 
 shared-slice-read-if1 : tie.Need-shared-slice-read-if1 Inv-loop μ-loop
 shared-slice-read-if1 c = search needs
@@ -49,7 +49,7 @@ begins-requires c κs = search needs
 returns : tie.Need-returns Inv-loop μ-loop
 returns c =
     let l = c .before .before .before .before .before .before .before .loop in
-    record { after = omega arith; inside = omega arith; passed = l .inv .2; here = λ h. sym (c .before .begins .ensures) ∙ c .if3 .taken }
+    record { after = omega arith; inside = omega arith; passed = l .inv .2; here = sym (c .before .begins .ensures) ∙ c .if3 .taken }
 
 add-i : tie.Need-add-i Inv-loop μ-loop
 add-i c = search needs
@@ -63,7 +63,7 @@ loop-again c =
     let l = c .before .before .before .loop in (
       omega arith,
       omega arith,
-      nowhere-more (a .u .now) (a .s .now) (a .from) (l .i) (l .inv .2)
+      all-more _ (a .from) (l .i) (l .inv .2)
           (⊎-elim
           (λ w. sym (w .3 .ensures) ∙ w .4 .left)
           (⊎-elim
@@ -75,7 +75,7 @@ loop-again c =
 returns-2 : tie.Need-returns-2 Inv-loop μ-loop
 returns-2 c =
     let l = c .before .loop in
-    record { after = omega arith; inside = omega arith; passed = λ i k h. l .inv .2 i k (omega arith); here = λ h. absurd (omega arith) }
+    λ i k h. l .inv .2 i k (omega arith)
 
 pub seek-spec : {M : Type 1} → statement M
 seek-spec =

@@ -4,8 +4,9 @@ use native.Mathlib.Omega.{arith}
 use borrow.Author.Needs.{needs}
 use borrow.Author.Tests.{eqb-false}
 use mathlib.Core.Logic.{⊎-elim}
-use Rattle.leftmost.specs.Leftmost.{Nowhere}
-use Rattle.leftmost.proofs.Leftmost.{nowhere-none, nowhere-then, nowhere-four}
+use mathlib.Core.Path.{subst}
+use Rattle.leftmost.specs.Places.{Free, FoundWithin}
+use Rattle.leftmost.proofs.Places.{all-none, all-then, free-four, least-then, found-then}
 use Rattle.leftmost.proofs.seek_front.Statement.{statement}
 use Rattle.leftmost.proofs.seek_front.Tie as tie
 use Rattle.leftmost.proofs.seek_front.Reads as reads
@@ -13,16 +14,16 @@ use Rattle.leftmost.proofs.seek_front.Lts as lts
 use Rattle.leftmost.proofs.seek.Reads as seek-reads
 
 abbrev Inv-loop : tie.InvT-loop
-Inv-loop s to u first i₀ i = (i ≤ to) × Nowhere u s 0 i
+Inv-loop s from to u first i₀ i = (from ≤ i) × (i ≤ to) × Free u s from i
 
 abbrev μ-loop : tie.MeasureT-loop
-μ-loop s to u first i₀ i = to - i
+μ-loop s from to u first i₀ i = to - i
 
 shared-slice-read-first : tie.Need-shared-slice-read-first Inv-loop μ-loop
 shared-slice-read-first c = search needs
 
 loop-holds : tie.Need-loop-holds Inv-loop μ-loop
-loop-holds c = let a = c .before .before .before .args in (omega arith, nowhere-none (a .u .now) (a .s .now) 0 0 (omega arith))
+loop-holds c = let a = c .before .before .before .args in (omega arith, omega arith, all-none _ (a .from) (a .from) (omega arith))
 
 add-loop : tie.Need-add-loop Inv-loop μ-loop
 add-loop c = search needs
@@ -54,20 +55,19 @@ add-seek c = search needs
 seek-requires : tie.Need-seek-requires Inv-loop μ-loop
 seek-requires c κs = record { some = omega arith; order = omega arith; room = omega arith }
 
-add-if5 : tie.Need-add-if5 Inv-loop μ-loop
-add-if5 c = search needs
+enum-known-found : tie.Need-enum-known-found Inv-loop μ-loop
+enum-known-found c = search needs
 
 returns : tie.Need-returns Inv-loop μ-loop
 returns c =
-    let a = c .before .before .before .before .before .before .before .before .before .args in
-    let l = c .before .before .before .before .before .loop in
-    let f = c .before .seek in
-    record {
-      after = omega arith;
-      inside = omega arith;
-      passed = nowhere-then (a .u .now) (a .s .now) 0 (l .i) (f .result) (l .inv .1) (f .ensures .passed);
-      here = λ h. f .ensures .here (omega arith);
-    }
+    let a = c .before .before .before .before .before .before .before .before .before .before .before .args in
+    let l = c .before .before .before .before .before .before .before .loop in
+    let r = c .before .before .before .seek in
+    least-then (a .u .now) (a .s .now) (a .from) (l .i) (omega arith) (l .inv .2) (l .i + 4) (a .to) _ (omega arith)
+    (subst (FoundWithin (a .u .now) (a .s .now) (l .i) (l .i + 4)) (c .before .found .given .1) (r .ensures))
+
+enum-told : tie.Need-enum-told Inv-loop μ-loop
+enum-told c = search needs
 
 add-i : tie.Need-add-i Inv-loop μ-loop
 add-i c = search needs
@@ -80,26 +80,21 @@ loop-again c =
     let a = c .before .before .before .before .before .before .before .args in
     let l = c .before .before .before .loop in (
       omega arith,
+      omega arith,
       ⊎-elim
-          (λ w. nowhere-then (a .u .now) (a .s .now) 0 (l .i) (l .i + 4) (l .inv .1) (λ k x y. w .1 .ensures .passed k x (omega arith)))
-          (λ w. nowhere-four (a .u .now) (a .s .now) (l .i) (omega arith) (omega arith) (l .inv .1) (w .0 .left) (eqb-false _ _ (w .2 .left)) (eqb-false _ _ (w .4 .left)) (eqb-false _ _ (w .6 .left)))
+          (λ w. all-then _ (a .from) (l .i) (l .i + 4) (l .inv .2) (subst (FoundWithin (a .u .now) (a .s .now) (l .i) (l .i + 4)) (w .3 .given .1) (w .1 .ensures)))
+          (λ w. free-four (a .u .now) (a .s .now) (a .from) (l .i) (omega arith) (omega arith) (l .inv .2) (w .0 .left) (eqb-false _ _ (w .2 .left)) (eqb-false _ _ (w .4 .left)) (eqb-false _ _ (w .6 .left)))
           (c .if1 .came),
     )
 
 seek-requires-2 : tie.Need-seek-requires-2 Inv-loop μ-loop
-seek-requires-2 c κs = let l = c .before .loop in record { some = omega arith; order = l .inv .0; room = omega arith }
+seek-requires-2 c κs = let l = c .before .loop in record { some = omega arith; order = l .inv .1; room = omega arith }
 
 returns-2 : tie.Need-returns-2 Inv-loop μ-loop
 returns-2 c =
     let a = c .before .before .before .before .before .before .args in
     let l = c .before .before .loop in
-    let f = c .seek2 in
-    record {
-      after = omega arith;
-      inside = f .ensures .inside;
-      passed = nowhere-then (a .u .now) (a .s .now) 0 (l .i) (f .result) (l .inv .1) (f .ensures .passed);
-      here = f .ensures .here;
-    }
+    found-then (a .u .now) (a .s .now) (a .from) (l .i) (omega arith) (l .inv .2) (a .to) (c .seek2 .result) (c .seek2 .ensures)
 
 pub seek-front-spec : {M : Type 1} → statement M
 seek-front-spec =
@@ -119,8 +114,9 @@ seek-front-spec =
     shared-slice-read-if4
     add-seek
     seek-requires
-    add-if5
+    enum-known-found
     returns
+    enum-told
     add-i
     loop-less
     loop-again

@@ -5,13 +5,16 @@ use borrow.Author.Needs.{needs}
 use mathlib.Core.Path.{_≡_, refl, _∙_, ap}
 use lib.ListN.{length}
 use Rattle.cascades.specs.Rewrite.{applyAll}
-use Rattle.books.specs.Arrays.{Arrays, holding, ruleAt, rulesOf}
+use Rattle.books.specs.Arrays.{Arrays, holding, rulesOf}
+use Rattle.cascades.specs.Value.{ruleOf}
+use Rattle.endings.proofs.Ending.{rule-inside}
 use Rattle.tagger.proofs.Run.{rule-next}
 use Rattle.tagger.proofs.apply_rules.Statement.{statement}
 use Rattle.tagger.proofs.apply_rules.Tie as tie
 use Rattle.tagger.proofs.apply_rules.Reads as reads
 use Rattle.tagger.proofs.apply_rules.Lts as lts
-use Rattle.tagger.proofs.apply_rule.Reads as apply-rule-reads
+use Rattle.books.proofs.rule_at.Reads as rule-at-reads
+use Rattle.rewriting.proofs.apply_rule.Reads as apply-rule-reads
 
 abbrev Inv-loop : tie.InvT-loop
 Inv-loop s₀ rows lengths heads m i₀ s i = (i ≤ m) × (length s ≡ length s₀) × (s ≡ applyAll (rulesOf (holding rows lengths heads) i) s₀)
@@ -25,11 +28,15 @@ arrays st = holding (st .args .rows .now) (st .args .lengths .now) (st .args .he
 loop-holds : tie.Need-loop-holds Inv-loop μ-loop
 loop-holds c = (omega arith, refl, refl)
 
+rule-at-requires : tie.Need-rule-at-requires Inv-loop μ-loop
+rule-at-requires c κs = let st = c .before .before .before in (st .pre .shaped, omega (arith, st .pre .few))
+
 apply-rule-requires : tie.Need-apply-rule-requires Inv-loop μ-loop
 apply-rule-requires c κs =
-    let st = c .before .before .before .before in
-    let l = c .before .before .loop in
-    record { shaped = st .pre .shaped; few = omega (arith, st .pre .few); inside = λ i h. st .pre .inside i (omega arith) }
+    let st = c .before .before .before .before .before in
+    let l = c .before .before .before .loop in
+    let r = c .before .rule-at in
+    (r .ensures .1, rule-inside (arrays st) (l .i) (r .result) (r .ensures .0) (r .ensures .1) (st .pre .shaped) (omega (arith, st .pre .few)) (st .pre .inside (l .i) (omega arith)))
 
 add-i : tie.Need-add-i Inv-loop μ-loop
 add-i c = search needs
@@ -39,12 +46,13 @@ loop-less c = search needs
 
 loop-again : tie.Need-loop-again Inv-loop μ-loop
 loop-again c =
-    let st = c .before .before .before .before .before .before .before in
-    let l = c .before .before .before .before .before .loop in
+    let st = c .before .before .before .before .before .before .before .before in
+    let l = c .before .before .before .before .before .before .loop in
+    let r = c .before .before .before .before .rule-at in
     let called = c .before .before .apply-rule in (
       omega arith,
       called .kept .0 ∙ l .inv .1,
-      called .ensures ∙ rule-next (arrays st) (l .i) (ruleAt (arrays st) (l .i)) (st .args .s .now) (l .s) refl (l .inv .2),
+      called .ensures ∙ rule-next (arrays st) (l .i) (ruleOf (r .result)) (st .args .s .now) (l .s) (r .ensures .0) (l .inv .2),
     )
 
 same-length : tie.Need-same-length Inv-loop μ-loop
@@ -64,6 +72,7 @@ apply-rules-spec =
     Inv-loop
     μ-loop
     loop-holds
+    rule-at-requires
     apply-rule-requires
     add-i
     loop-less
