@@ -11,6 +11,7 @@
 #include "generate.h"
 #include "loaded.h"
 #include "nedzsuka.h"
+#include "places.h"
 #include "slices.h"
 #include "typing.h"
 
@@ -641,6 +642,7 @@ static void compare_chosen(void)
     compare_everywhere_cases();
     compare_one_rules();
     compare_full_sentences();
+    compare_places();
     compare_ending_cases();
     compare_every_end();
     alike += compare_ending_pairs();
