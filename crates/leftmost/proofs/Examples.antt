@@ -5,7 +5,7 @@ use mathlib.Core.Path.{refl}
 use mathlib.Core.List.{List, [], _∷_}
 use lib.ListN.{drop, length-drop}
 use Rattle.cascades.proofs.Rewrite.{prefix-short}
-use Rattle.leftmost.specs.declared.Occurrence.the-variants.{At, Nowhere}
+use Rattle.places.specs.declared.Occurrence.the-variants.{At, Nowhere}
 use Rattle.leftmost.specs.Leftmost.{Found}
 
 -- what holds at 0 holds before 1

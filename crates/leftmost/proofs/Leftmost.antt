@@ -11,10 +11,10 @@ use Rattle.words.specs.Word.{prefix, Prefix}
 use Rattle.words.proofs.Word.{prefix-append}
 use Rattle.cascades.specs.Leftmost.{OccursAt, Occurs}
 use Rattle.cascades.proofs.Rewrite.{prefix-short}
-use Rattle.leftmost.specs.declared.Occurrence.{Occurrence}
-use Rattle.leftmost.specs.declared.Occurrence.the-variants.{At, Nowhere}
+use Rattle.places.specs.declared.Occurrence.{Occurrence}
+use Rattle.places.specs.declared.Occurrence.the-variants.{At, Nowhere}
 use Rattle.leftmost.specs.Leftmost.{Found}
-use Rattle.leftmost.specs.Places.{Free, LeastWithin}
+use Rattle.places.specs.Places.{Free, LeastWithin}
 
 -- ---- the part of s from a place on
 
@@ -23,22 +23,21 @@ module _ (u s : List ℕ) (from : ℕ) where
   pub place-is : (i : ℕ) → prefix u (drop i (drop from s)) ≡ prefix u (drop (from + i) s)
   place-is i = ap (prefix u) (drop-drop i from s)
 
-  module _ (b : ℕ) (some : 0 < length u) (short : length s < b + length u) where
-    -- u has no room from b on
-    pub part-free : Free u s from b → Found u (drop from s) Nowhere
-    part-free f i = place-is i ∙ by (decLt (from + i) b)
-      where
-        by : Dec (from + i < b) → prefix u (drop (from + i) s) ≡ false
-        by (yes l) = f (from + i) (omega arith) l
-        by (no l) = prefix-short u (drop (from + i) s) (omega (arith, length-drop (from + i) s))
+  -- it begins at no place up to b, and has no room from b on
+  pub part-free : 0 < length u → (b : ℕ) → Free u s from b → length s < b + length u → Found u (drop from s) Nowhere
+  part-free some b f short i = place-is i ∙ by (decLt (from + i) b)
+    where
+      by : Dec (from + i < b) → prefix u (drop (from + i) s) ≡ false
+      by (yes l) = f (from + i) (omega arith) l
+      by (no l) = prefix-short u (drop (from + i) s) (omega (arith, length-drop (from + i) s))
 
-    pub part-least : (i : ℕ) → LeastWithin u s from b i → Found u (drop from s) (At (i - from))
-    part-least i f =
-        let e : from + (i - from) ≡ i = omega (arith, f .after) in
-        record {
-          here = place-is (i - from) ∙ ap (λ (n : ℕ). prefix u (drop n s)) e ∙ f .here;
-          least = λ j l. place-is j ∙ f .passed (from + j) (omega arith) (omega arith);
-        }
+  pub part-least : (b i : ℕ) → LeastWithin u s from b i → Found u (drop from s) (At (i - from))
+  part-least b i f =
+      let e : from + (i - from) ≡ i = omega (arith, f .after) in
+      record {
+        here = place-is (i - from) ∙ ap (λ (n : ℕ). prefix u (drop n s)) e ∙ f .here;
+        least = λ j l. place-is j ∙ f .passed (from + j) (omega arith) (omega arith);
+      }
 
 -- ---- the answer
 

@@ -1,4 +1,3 @@
 -- Laws of the search.
-pub mod Places
 pub mod Leftmost
 pub mod Examples

@@ -5,8 +5,8 @@ use mathlib.Core.Bool.{true, false}
 use mathlib.Core.List.{List}
 use lib.ListN.{drop}
 use Rattle.words.specs.Word.{prefix}
-use Rattle.leftmost.specs.declared.Occurrence.{Occurrence}
-use Rattle.leftmost.specs.declared.Occurrence.the-variants.{At, Nowhere}
+use Rattle.places.specs.declared.Occurrence.{Occurrence}
+use Rattle.places.specs.declared.Occurrence.the-variants.{At, Nowhere}
 
 -- i is "the least place at which the pattern begins" (document 02, W5)
 pub record Least (u s : List ℕ) (i : ℕ) : Type 0 where

@@ -1,3 +1,2 @@
 -- The leftmost occurrence.
 pub mod Leftmost
-pub mod Places

@@ -13,7 +13,7 @@ use Rattle.cascades.specs.Rule.{Kind, once}
 use Rattle.cascades.specs.Value.{rule, kindOf}
 use Rattle.cascades.specs.Rewrite.{behind, apply}
 use Rattle.cascades.proofs.Rewrite.{begun-other, begun-short, begun-match}
-use Rattle.leftmost.specs.declared.Occurrence.the-variants.{At, Nowhere}
+use Rattle.places.specs.declared.Occurrence.the-variants.{At, Nowhere}
 use Rattle.leftmost.specs.Leftmost.{Found}
 use Rattle.leftmost.proofs.Leftmost.{place-is}
 

@@ -1,6 +1,6 @@
 // A rule applied to a sentence: its leftmost match gets the new tag, and so do those behind it where it fires everywhere.
 use cascades::Rule;
-use leftmost::Occurrence;
+use places::Occurrence;
 ghost use mathlib.Core.Path.{_≡_};
 ghost use Prim.Native.Nat.{_<_};
 ghost use lib.ListN.{length};

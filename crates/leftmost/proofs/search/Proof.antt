@@ -2,13 +2,13 @@
 use Prim.Native.Nat.{_+_}
 use native.Mathlib.Omega.{arith}
 use mathlib.Core.Path.{sym, _∙_}
-use Rattle.leftmost.proofs.Places.{all-none, all-more, found-then}
+use Rattle.places.proofs.Places.{all-none, all-more, found-then}
 use borrow.Author.Needs.{needs}
 use Rattle.leftmost.proofs.search.Statement.{statement}
 use Rattle.leftmost.proofs.search.Tie as tie
 use Rattle.leftmost.proofs.search.Reads as reads
 use Rattle.leftmost.proofs.search.Lts as lts
-use Rattle.leftmost.proofs.begins.Reads as begins-reads
+use Rattle.places.proofs.begins.Reads as begins-reads
 use Rattle.leftmost.proofs.seek_front.Reads as seek-front-reads
 use Rattle.leftmost.proofs.sweep.Reads as sweep-reads
 

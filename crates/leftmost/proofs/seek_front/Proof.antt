@@ -5,13 +5,13 @@ use borrow.Author.Needs.{needs}
 use borrow.Author.Tests.{eqb-false}
 use mathlib.Core.Logic.{⊎-elim}
 use mathlib.Core.Path.{subst}
-use Rattle.leftmost.specs.Places.{Free, FoundWithin}
-use Rattle.leftmost.proofs.Places.{all-none, all-then, free-four, least-then, found-then}
+use Rattle.places.specs.Places.{Free, FoundWithin}
+use Rattle.places.proofs.Places.{all-none, all-then, free-four, least-then, found-then}
 use Rattle.leftmost.proofs.seek_front.Statement.{statement}
 use Rattle.leftmost.proofs.seek_front.Tie as tie
 use Rattle.leftmost.proofs.seek_front.Reads as reads
 use Rattle.leftmost.proofs.seek_front.Lts as lts
-use Rattle.leftmost.proofs.seek.Reads as seek-reads
+use Rattle.places.proofs.seek.Reads as seek-reads
 
 abbrev Inv-loop : tie.InvT-loop
 Inv-loop s from to u first i₀ i = (from ≤ i) × (i ≤ to) × Free u s from i

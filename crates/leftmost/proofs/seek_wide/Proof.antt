@@ -4,14 +4,14 @@ use native.Mathlib.Omega.{arith}
 use borrow.Author.Needs.{needs}
 use mathlib.Core.Logic.{⊎-elim}
 use mathlib.Core.Path.{_≡_, subst}
-use Rattle.leftmost.specs.Places.{Free, FoundWithin}
-use Rattle.leftmost.proofs.Places.{all-none, all-then, least-then}
+use Rattle.places.specs.Places.{Free, FoundWithin}
+use Rattle.places.proofs.Places.{all-none, all-then, least-then}
 use Rattle.leftmost.proofs.seek_wide.Statement.{statement}
 use Rattle.leftmost.proofs.seek_wide.Tie as tie
 use Rattle.leftmost.proofs.seek_wide.Reads as reads
 use Rattle.leftmost.proofs.seek_wide.Lts as lts
-use Rattle.leftmost.proofs.may_begin_close.Reads as may-begin-close-reads
-use Rattle.leftmost.proofs.seek.Reads as seek-reads
+use Rattle.places.proofs.may_begin_close.Reads as may-begin-close-reads
+use Rattle.places.proofs.seek.Reads as seek-reads
 
 abbrev Inv-loop : tie.InvT-loop
 Inv-loop s from u i₀ i = (k : ℕ) × (i ≡ from + 16 * k) × (i ≤ from + 32) × Free u s from i

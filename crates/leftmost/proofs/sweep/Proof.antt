@@ -4,13 +4,13 @@ use native.Mathlib.Omega.{arith}
 use borrow.Author.Needs.{needs}
 use mathlib.Core.Logic.{⊎-elim}
 use mathlib.Core.Path.{subst}
-use Rattle.leftmost.specs.Places.{Free, FoundWithin}
-use Rattle.leftmost.proofs.Places.{all-none, all-block, least-then}
+use Rattle.places.specs.Places.{Free, FoundWithin}
+use Rattle.places.proofs.Places.{all-none, all-block, least-then}
 use Rattle.leftmost.proofs.sweep.Statement.{statement}
 use Rattle.leftmost.proofs.sweep.Tie as tie
 use Rattle.leftmost.proofs.sweep.Reads as reads
 use Rattle.leftmost.proofs.sweep.Lts as lts
-use Rattle.leftmost.proofs.may_begin.Reads as may-begin-reads
+use Rattle.places.proofs.may_begin.Reads as may-begin-reads
 use Rattle.leftmost.proofs.seek_wide.Reads as seek-wide-reads
 use Rattle.words.proofs.lesser.Reads as lesser-reads
 

@@ -10,7 +10,7 @@ use Rattle.words.proofs.Parts.{begun-start}
 use Rattle.cascades.specs.Value.{rule, kindOf}
 use Rattle.cascades.specs.Rewrite.{behind, apply}
 use Rattle.cascades.proofs.Rewrite.{begun-short}
-use Rattle.leftmost.specs.declared.Occurrence.the-variants.{At}
+use Rattle.places.specs.declared.Occurrence.the-variants.{At}
 use Rattle.leftmost.specs.Leftmost.{Found}
 use Rattle.rewriting.proofs.Rewriting.{Going, room-behind, match-behind, none-behind, fired-once, fires-again}
 use Rattle.rewriting.proofs.rewrite.Statement.{statement}

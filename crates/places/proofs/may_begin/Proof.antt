@@ -1,4 +1,4 @@
--- `leftmost::may_begin` meets its contract: while no place is seen where the tags stand, the pattern begins at none passed.
+-- `places::may_begin` meets its contract: while no place is seen where the tags stand, the pattern begins at none passed.
 use Prim.Native.Nat.{_+_, _-_, _≤_}
 use native.Mathlib.Omega.{arith}
 use borrow.Author.Needs.{needs}
@@ -6,13 +6,13 @@ use mathlib.Core.Logic.{⊎-elim}
 use mathlib.Core.Path.{_≡_, refl, sym, _∙_}
 use mathlib.Core.Bool.{false, false≢true}
 use lib.ListN.{length}
-use Rattle.leftmost.specs.Places.{Free}
-use Rattle.leftmost.proofs.Places.{all-none, may-more, two-other}
-use Rattle.leftmost.proofs.may_begin.Statement.{statement}
-use Rattle.leftmost.proofs.may_begin.Tie as tie
-use Rattle.leftmost.proofs.may_begin.Reads as reads
-use Rattle.leftmost.proofs.may_begin.Lts as lts
-use Rattle.leftmost.proofs.same.Reads as same-reads
+use Rattle.places.specs.Places.{Free}
+use Rattle.places.proofs.Places.{all-none, may-more, two-other}
+use Rattle.places.proofs.may_begin.Statement.{statement}
+use Rattle.places.proofs.may_begin.Tie as tie
+use Rattle.places.proofs.may_begin.Reads as reads
+use Rattle.places.proofs.may_begin.Lts as lts
+use Rattle.places.proofs.same.Reads as same-reads
 
 abbrev Inv-loop : tie.InvT-loop
 Inv-loop s from u w first last may₀ j₀ may j = (j ≤ 32) × (may ≡ false → Free u s from (from + j))

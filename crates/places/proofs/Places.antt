@@ -10,9 +10,9 @@ use lib.Seq.{getD-drop}
 use Rattle.words.specs.Word.{prefix}
 use Rattle.words.proofs.Word.{prefix-split}
 use Rattle.cascades.proofs.Rewrite.{first-other}
-use Rattle.leftmost.specs.declared.Occurrence.{Occurrence}
-use Rattle.leftmost.specs.declared.Occurrence.the-variants.{At, Nowhere}
-use Rattle.leftmost.specs.Places.{All, Free, LeastWithin, FoundWithin}
+use Rattle.places.specs.declared.Occurrence.{Occurrence}
+use Rattle.places.specs.declared.Occurrence.the-variants.{At, Nowhere}
+use Rattle.places.specs.Places.{All, Free, LeastWithin, FoundWithin}
 
 -- ---- places one by one
 

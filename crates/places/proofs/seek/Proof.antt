@@ -1,4 +1,4 @@
--- `leftmost::seek` meets its contract: the pattern begins at no place passed.
+-- `places::seek` meets its contract: the pattern begins at no place passed.
 use Prim.Native.Nat.{_-_, _≤_}
 use native.Mathlib.Omega.{arith}
 use borrow.Author.Needs.{needs}
@@ -6,13 +6,13 @@ use mathlib.Core.Logic.{⊎-elim}
 use mathlib.Core.Path.{_∙_, sym}
 use lib.ListN.{length}
 use Rattle.cascades.proofs.Rewrite.{first-other}
-use Rattle.leftmost.specs.Places.{Free}
-use Rattle.leftmost.proofs.Places.{all-none, all-more, tag-other}
-use Rattle.leftmost.proofs.seek.Statement.{statement}
-use Rattle.leftmost.proofs.seek.Tie as tie
-use Rattle.leftmost.proofs.seek.Reads as reads
-use Rattle.leftmost.proofs.seek.Lts as lts
-use Rattle.leftmost.proofs.begins.Reads as begins-reads
+use Rattle.places.specs.Places.{Free}
+use Rattle.places.proofs.Places.{all-none, all-more, tag-other}
+use Rattle.places.proofs.seek.Statement.{statement}
+use Rattle.places.proofs.seek.Tie as tie
+use Rattle.places.proofs.seek.Reads as reads
+use Rattle.places.proofs.seek.Lts as lts
+use Rattle.places.proofs.begins.Reads as begins-reads
 
 abbrev Inv-loop : tie.InvT-loop
 Inv-loop s from to u w first last i₀ i = (from ≤ i) × (i ≤ to) × Free u s from i

@@ -1,4 +1,4 @@
--- `leftmost::begins` meets its contract: the tags passed are equal, so the test of what is left is the whole test.
+-- `places::begins` meets its contract: the tags passed are equal, so the test of what is left is the whole test.
 use Prim.Native.Nat.{ℕ, _+_, _-_, _≤_}
 use native.Mathlib.Omega.{arith}
 use borrow.Author.Needs.{needs}
@@ -7,10 +7,10 @@ use native.Mathlib.Nat.{zero-add}
 use lib.ListN.{length, drop}
 use Rattle.words.specs.Word.{prefix}
 use Rattle.cascades.proofs.Rewrite.{same-next, other-next, all-same}
-use Rattle.leftmost.proofs.begins.Statement.{statement}
-use Rattle.leftmost.proofs.begins.Tie as tie
-use Rattle.leftmost.proofs.begins.Reads as reads
-use Rattle.leftmost.proofs.begins.Lts as lts
+use Rattle.places.proofs.begins.Statement.{statement}
+use Rattle.places.proofs.begins.Tie as tie
+use Rattle.places.proofs.begins.Reads as reads
+use Rattle.places.proofs.begins.Lts as lts
 
 abbrev Inv-loop : tie.InvT-loop
 Inv-loop s i u j₀ j = (j ≤ length u) × (prefix (drop j u) (drop (j + i) s) ≡ prefix u (drop i s))

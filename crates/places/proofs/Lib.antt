@@ -1,0 +1,2 @@
+-- Laws of places.
+pub mod Places

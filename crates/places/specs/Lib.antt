@@ -1,0 +1,2 @@
+-- Some places of a sentence.
+pub mod Places
