@@ -120,14 +120,15 @@ set-middle (a ∷ x) u y p t h =
     let e : suc (length x) + p ≡ suc (length x + p) = omega arith in
     rw e (ap (λ (r : List ℕ). a ∷ r) (set-middle x u y p t h))
 
-module _ (r : Rule) (s₀ s : List ℕ) (i : ℕ) (b : Begun (apply r) (apply r) s₀ s i) where
+module _ (r : Rule) (s₀ s : List ℕ) (i : ℕ) (b : Begun (apply r) (apply r) s₀ s s i) where
   -- the pattern does not begin at i
-  pub begun-other : i < length s → prefix (r .pattern) (drop i s) ≡ false → Begun (apply r) (apply r) s₀ s (i + 1)
+  pub begun-other : i < length s → prefix (r .pattern) (drop i s) ≡ false → Begun (apply r) (apply r) s₀ s s (i + 1)
   begun-other h e =
       let p : prefix (r .pattern) (getD s i 0 ∷ drop (suc i) s) ≡ false = subst (λ (x : List ℕ). prefix (r .pattern) x ≡ false) (drop-cons s i 0 h) e in
       record {
         inside = omega arith;
         long = b .long;
+        beside = refl;
         cut =
             cc (
               b .cut,
@@ -146,7 +147,7 @@ module _ (r : Rule) (s₀ s : List ℕ) (i : ℕ) (b : Begun (apply r) (apply r)
 
   -- it begins at i, and the new tag is put there
   pub begun-match : r .place < length (r .pattern) → prefix (r .pattern) (drop i s) ≡ true
-      → Begun (apply r) (behind (r .kind) (apply r)) s₀ (set s (i + r .place) (r .tag)) (i + length (r .pattern))
+      → Begun (apply r) (behind (r .kind) (apply r)) s₀ (set s (i + r .place) (r .tag)) (set s (i + r .place) (r .tag)) (i + length (r .pattern))
   begun-match hp e =
       let u = r .pattern in
       let y = drop (length u) (drop i s) in
@@ -164,6 +165,7 @@ module _ (r : Rule) (s₀ s : List ℕ) (i : ℕ) (b : Begun (apply r) (apply r)
       record {
         inside = omega arith;
         long = size ∙ b .long;
+        beside = refl;
         cut =
             b .cut ∙ ap (λ (x : List ℕ). take i s ++ apply r x) is
             ∙ ap (λ (x : List ℕ). take i s ++ x) (apply-front r (omega arith) y)

@@ -145,6 +145,7 @@ usable k m a h =
       shaped = h .shaped;
       few = h .few;
       inside = λ i l. omega (arith, h .valid i l .place-inside, pattern-long a (h .shaped) i (omega (arith, h .few)));
+      new = λ i l. h .valid i l .tag-new;
     }
 
 -- a rule of a book that can be used with the end tag

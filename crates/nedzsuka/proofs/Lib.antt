@@ -3,3 +3,4 @@ pub mod Legible
 pub mod Demand
 pub mod Loaded
 pub mod Typing
+pub mod Rules

@@ -1,5 +1,5 @@
-// The functions for C (document 01, "host door"): compile and the run of a book, both also with an end tag, the runs of a table and of a
-// loaded one, loading, the two readers and typing, each answering one number.
+// The functions for C (document 01, "host door"): compile and the run of a book, both also with an end tag, the run that tells the rules, the runs
+// of a table and of a loaded one, loading, the two readers and typing, each answering one number.
 // include/nedzsuka.h tells a host what they promise.
 use answers::WriteAnswer;
 use books::BookAnswer;
@@ -17,11 +17,13 @@ use typing::Sentence;
 use typing::Typed;
 use words::wide;
 ghost use mathlib.Core.Path.{_≡_};
+ghost use Prim.Native.Nat.{min};
 ghost use lib.ListN.{length};
 ghost use Rattle.limits.specs.Limits.{no-end};
 ghost use Rattle.answers.specs.Slice.{longOf, written};
 ghost use Rattle.sentences.specs.Run.{changed};
 ghost use Rattle.tagger.specs.Run.{bookRun};
+ghost use Rattle.tagger.specs.Numbers.{bookNumbers};
 ghost use Rattle.tables.specs.Run.{tableRun};
 ghost use Rattle.loaded.specs.Run.{loadedRun, loadAnswer};
 ghost use Rattle.compilation.specs.Compile.{tested, compileAnswer};
@@ -78,7 +80,24 @@ pub extern "C" fn nedzsuka_run_book_ending(
     pack_run(answer)
 }
 
-// tagger::run_book: the same with no end tag.
+// tagger::run_book_rules: the same, and the number of the rule that rewrote each tag.
+#[no_mangle]
+pub extern "C" fn nedzsuka_run_book_rules(
+    book: &[u8],
+    end: u8,
+    sentence: &[u8],
+    out: &mut [u8],
+    rules: &mut [u8],
+) -> u64
+    ensures answer { λ r. ⌜ r ≡ packed (changed (now (sentence .entry)) (bookRun (now (book .entry)) end (now (sentence .entry)) (min (length (now (out .entry))) (length (now (rules .entry)))))) ⌝ }
+    ensures out { λ r. ⌜ now (out .exit) ≡ written (bookRun (now (book .entry)) end (now (sentence .entry)) (min (length (now (out .entry))) (length (now (rules .entry))))) (now (out .entry)) ⌝ }
+    ensures rules { λ r. ⌜ now (rules .exit) ≡ written (bookNumbers (now (book .entry)) end (now (sentence .entry)) (min (length (now (out .entry))) (length (now (rules .entry))))) (now (rules .entry)) ⌝ }
+{
+    let answer = tagger::run_book_rules(book, end, sentence, out, rules);
+    pack_run(answer)
+}
+
+// tagger::run_book: the number of changed tags with no end tag, or the refusal.
 #[no_mangle]
 pub extern "C" fn nedzsuka_run_book(book: &[u8], sentence: &[u8], out: &mut [u8]) -> u64
     ensures answer { λ r. ⌜ r ≡ packed (changed (now (sentence .entry)) (bookRun (now (book .entry)) no-end (now (sentence .entry)) (length (now (out .entry))))) ⌝ }

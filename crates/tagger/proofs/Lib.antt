@@ -1,3 +1,3 @@
 -- Laws that the functions' proofs cite.
 pub mod Run
-pub mod Pieces
+pub mod Numbers

@@ -1,46 +1,38 @@
--- The run of a book: rule by rule, and the output slice.
-use Prim.Native.Nat.{ℕ, suc, _+_}
+-- The run of a book: the output slices, and the answer.
+use Prim.Native.Nat.{ℕ, _≤_, min}
 use native.Mathlib.Omega.{arith}
-use native.Mathlib.Numerals.{add-one}
-use mathlib.Core.Path.{_≡_, sym, ap, _∙_}
+use mathlib.Core.Path.{_≡_, sym, ap, ap₂, _∙_}
 use mathlib.Core.Bool.{Bool, true, false, not}
-use mathlib.Core.List.{List, [], _∷_, _++_, reverse-cons}
+use mathlib.Core.List.{List, _++_}
 use lib.ListN.{length, take, drop}
-use lib.Seq.{take-append-seam, drop-append-seam, take-at}
+use lib.Seq.{take-append-seam, drop-append-seam, take-at, length-take-le}
 use Rattle.limits.specs.Limits.{no-end}
 use Rattle.words.specs.Word.{differences}
 use Rattle.answers.specs.Outcome.{Outcome, result, refused, nothing, andThen, provided}
+use Rattle.answers.specs.Slice.{written}
 use Rattle.answers.specs.Answer.{refusal}
 use Rattle.answers.specs.declared.Refusal.{Refusal}
 use Rattle.answers.specs.declared.Refusal.the-variants.{AtByte, AtRule, Bare}
 use Rattle.sentences.specs.Run.{run}
-use Rattle.sentences.proofs.Run.{run-same}
+use Rattle.sentences.proofs.Run.{ran-refused, run-same}
+use Rattle.cascades.specs.Rewrite.{applyAll, behavior}
+use Rattle.cascades.proofs.Ending.{without-end}
 use Rattle.sentences.specs.Parts.{Wrote}
 use Rattle.sentences.specs.Admission.{admission}
 use Rattle.sentences.specs.declared.Admission.{Admission}
-use Rattle.cascades.specs.Rule.{Rule, Cascade, ending}
+use Rattle.cascades.specs.Rule.{Cascade, ending}
 use Rattle.cascades.specs.Ending.{badEnd}
-use Rattle.cascades.specs.Rewrite.{apply, applyAll, behavior}
-use Rattle.cascades.proofs.Rewrite.{applyAll-append}
-use Rattle.cascades.proofs.Ending.{without-end}
 use Rattle.books.specs.Read.{read}
 use Rattle.books.specs.Ending.{fitted}
-use Rattle.books.specs.Arrays.{Arrays, ruleAt, rulesDown, rulesOf, cascadeOf}
+use Rattle.books.specs.Arrays.{Arrays, rulesOf, cascadeOf}
 use Rattle.books.specs.Resume.{Whole}
 use Rattle.books.specs.declared.BookAnswer.{BookAnswer}
 use Rattle.books.specs.declared.BookAnswer.the-variants.{Book}
 use Rattle.books.proofs.Encode.{reads-exactly}
 use Rattle.books.proofs.Held.{was-refused, was-read, rules-held}
-use Rattle.tagger.specs.Run.{bookRun}
-use Rattle.tagger.specs.Rules.{cascadeRun}
+use Rattle.tagger.specs.Rules.{running, reading}
 use Rattle.endings.specs.Usable.{Usable}
 use Rattle.endings.proofs.Ending.{usable}
-
--- one more rule
-pub rule-next : (a : Arrays) (i : ℕ) (r : Rule) (w v : List ℕ) → r ≡ ruleAt a i → v ≡ applyAll (rulesOf a i) w → apply r v ≡ applyAll (rulesOf a (i + 1)) w
-rule-next a i r w v f e =
-    let n : i + 1 ≡ suc i = add-one i in
-    cc (e, f, n, reverse-cons (ruleAt a i) (rulesDown a i), applyAll-append (rulesOf a i) (ruleAt a i ∷ []) w)
 
 -- ---- the output slice: o after the copy of the sentence w, and x what the rules leave of its front
 
@@ -66,17 +58,25 @@ module _ (w out o x : List ℕ) (copied : o ≡ w ++ drop (length w) out) where
           front = cc (m, d, ap length m, l);
         }
 
--- ---- the run, from what the book's reader and the sentence's tests answer
+  -- beside it, g's numbers, where v has as many places as the sentence has tags
+  pub numbers-written : (v y : List ℕ) (n : ℕ) (g : List ℕ → List ℕ) → n ≡ min (length w) (length v) → (length (take n v) ≡ length (take (length w) o) → y ≡ g (take (length w) o))
+      → length w ≤ length v → y ++ drop n v ≡ g w ++ drop (length w) v
+  numbers-written v y n g lesser made h =
+      let e : n ≡ length w = omega (arith, lesser, h) in
+      let long : length (take n v) ≡ length (take (length w) o) = length-take-le n v (omega (arith, e, h)) ∙ e ∙ front-long in
+      ap₂ (λ (z : List ℕ) (i : ℕ). z ++ drop i v) (made long ∙ ap g front-is) e
+
+-- ---- the run, from what the book's reader and the sentence's tests answer; f makes the result or the numbers
 
 -- 14, or the run of the cascade with the end tag
-module _ (e : ℕ) (c : Cascade) (s : List ℕ) (room : ℕ) (b : Bool) (is : b ≡ badEnd (ending e c)) where
+module _ (f : Cascade → List ℕ → List ℕ) (e : ℕ) (c : Cascade) (s : List ℕ) (room : ℕ) (b : Bool) (is : b ≡ badEnd (ending e c)) where
   abbrev told : Bool → Outcome (List ℕ)
-  told x = andThen (provided 14 (not x) (result (ending e c))) (λ d. run (d .tags) s room (behavior d s))
+  told x = andThen (provided 14 (not x) (result (ending e c))) (λ d. run (d .tags) s room (f d s))
 
-  pub run-14 : b ≡ true → refused 14 nothing ≡ cascadeRun e c s room
+  pub run-14 : b ≡ true → refused 14 nothing ≡ running f e c s room
   run-14 h = ap told (sym h ∙ is)
 
-  pub run-fits : b ≡ false → run (c .tags) s room (behavior (ending e c) s) ≡ cascadeRun e c s room
+  pub run-fits : b ≡ false → run (c .tags) s room (f (ending e c) s) ≡ running f e c s room
   run-fits h = ap told (sym h ∙ is)
 
 module _ (r : Admission) (o : Outcome (List ℕ)) (made : List ℕ) (e : admission r made ≡ o) where
@@ -86,25 +86,34 @@ module _ (r : Admission) (o : Outcome (List ℕ)) (made : List ℕ) (e : admissi
   pub run-admitted : r ≡ Admission.Admitted → result made ≡ o
   run-admitted f = cc
 
+-- the numbers' slice
+pub numbers-kept : (outcome : Outcome (List ℕ)) (x : Refusal) (v : List ℕ) → refusal x ≡ outcome → v ≡ written outcome v
+numbers-kept outcome x v e = ran-refused outcome v v x e .wrote
+
+pub numbers-put : (outcome : Outcome (List ℕ)) (made v y : List ℕ) (n : ℕ) → result made ≡ outcome → length made ≡ n → y ≡ made ++ drop n v → y ≡ written outcome v
+numbers-put outcome made v y n e long is = is ∙ ap (λ (i : ℕ). made ++ drop i v) (sym long) ∙ ap (λ (o : Outcome (List ℕ)). written o v) e
+
 module _ (bytes : List ℕ) (a : Arrays) (r : BookAnswer) (w : Whole bytes a r) where
-  pub book-refused : (e : ℕ) (s : List ℕ) (room : ℕ) (x : Refusal) → r ≡ BookAnswer.Refused x → refusal x ≡ bookRun bytes e s room
-  book-refused e s room x f = stays x (was-refused bytes a r w x f)
-    where
-      stays : (x : Refusal) → read bytes ≡ refusal x → refusal x ≡ bookRun bytes e s room
-      stays (AtByte n i) g = cc
-      stays (AtRule n i) g = cc
-      stays (Bare n) g = cc
+  module _ (f : Cascade → List ℕ → List ℕ) (e : ℕ) (s : List ℕ) (room : ℕ) where
+    pub book-refused : (x : Refusal) → r ≡ BookAnswer.Refused x → refusal x ≡ reading f bytes e s room
+    book-refused x g = stays x (was-refused bytes a r w x g)
+      where
+        stays : (x : Refusal) → read bytes ≡ refusal x → refusal x ≡ reading f bytes e s room
+        stays (AtByte n i) g = cc
+        stays (AtRule n i) g = cc
+        stays (Bare n) g = cc
+
+    pub book-runs : (k m : ℕ) → r ≡ Book k m → running f e (cascadeOf k a m) s room ≡ reading f bytes e s room
+    book-runs k m g = sym (ap (λ (o : Outcome Cascade). andThen (andThen o (fitted e)) (λ b. run (b .tags) s room (f b s))) (was-read bytes a r w k m g))
 
   module _ (k m : ℕ) (f : r ≡ Book k m) where
-    pub book-runs : (e : ℕ) (s : List ℕ) (room : ℕ) → cascadeRun e (cascadeOf k a m) s room ≡ bookRun bytes e s room
-    book-runs e s room = sym (ap (λ (o : Outcome Cascade). andThen (andThen o (fitted e)) (λ b. run (b .tags) s room (behavior b s))) (was-read bytes a r w k m f))
-
-    -- without an end tag, from what the rules make of the whole sentence
-    pub book-runs-whole : (s : List ℕ) (room : ℕ) → run k s room (applyAll (rulesOf a m) s) ≡ bookRun bytes no-end s room
-    book-runs-whole s room =
-        let c = cascadeOf k a m in
-        let few = reads-exactly bytes c .0 (was-read bytes a r w k m f) .0 .few-tags in
-        run-same k s room (applyAll (rulesOf a m) s) (behavior c s) (λ below. sym (without-end c (omega arith) s below)) ∙ book-runs no-end s room
+    pub few-tags : k ≤ no-end
+    few-tags = let few = reads-exactly bytes (cascadeOf k a m) .0 (was-read bytes a r w k m f) .0 .few-tags in omega (arith, few)
 
     pub applicable : Usable m a
     applicable = usable k m a (rules-held bytes a r w k m f)
+
+    pub book-runs-whole : (s : List ℕ) (room : ℕ) → run k s room (applyAll (rulesOf a m) s) ≡ reading behavior bytes no-end s room
+    book-runs-whole s room =
+        let c = cascadeOf k a m in
+        run-same k s room (applyAll (rulesOf a m) s) (behavior c s) (λ below. sym (without-end c few-tags s below)) ∙ book-runs behavior no-end s room k m f

@@ -1,93 +1,32 @@
-// The run of a book over a sentence.
+// The run of a book over a sentence. The calls with and without rule numbers are one body: the slice v, which lies beside the sentence, gets the
+// number of the last rule that rewrote each tag, and has no length where a call wants no numbers.
 use answers::Refusal;
 use answers::RunAnswer;
 use books::BookAnswer;
 use books::HEAD;
+use limits::NO_END;
 use limits::PATTERN;
 use limits::RULES;
 use sentences::Admission;
+use words::lesser;
 ghost use mathlib.Core.Path.{_≡_};
-ghost use Prim.Native.Nat.{_+_, _≤_, _<_};
-ghost use lib.ListN.{length};
+ghost use mathlib.Core.List.{_++_};
+ghost use Prim.Native.Nat.{_≤_, min};
+ghost use lib.ListN.{length, drop};
 ghost use Rattle.limits.specs.Limits.{no-end};
+ghost use Rattle.words.specs.Word.{Below};
 ghost use Rattle.words.specs.Pieces.{piecewise};
-ghost use Rattle.words.specs.Parts.{Begun};
+ghost use Rattle.answers.specs.Slice.{written};
 ghost use Rattle.cascades.specs.Rewrite.{applyAll};
 ghost use Rattle.books.specs.Arrays.{arrays, rulesOf, cascadeOf};
 ghost use Rattle.endings.specs.Usable.{Usable};
+ghost use Rattle.traces.specs.Trace.{numbersOf};
+ghost use Rattle.traces.specs.Note.{Room};
 ghost use Rattle.sentences.specs.Run.{run, Ran};
 ghost use Rattle.sentences.specs.Parts.{Wrote};
 ghost use Rattle.tagger.specs.Run.{bookRun};
-ghost use Rattle.tagger.specs.Rules.{cascadeRun};
-ghost use Rattle.tagger.specs.Pieces.{FirstPiece};
-
-// The first m rules of the arrays, applied to s in order.
-fn apply_rules(
-    s: &mut [u8],
-    rows: &[[u8; PATTERN]; RULES],
-    lengths: &[usize; RULES],
-    heads: &[[u8; HEAD]; RULES],
-    m: usize,
-)
-    requires { ⌜ Usable m (arrays rows lengths heads) ⌝ }
-    ensures { λ _. ⌜ now (s .exit) ≡ applyAll (rulesOf (arrays (rows .entry) (lengths .entry) (heads .entry)) m) (now (s .entry)) ⌝ }
-{
-    let mut i = 0;
-    while i < m {
-        let rule = books::rule_at(rows, lengths, heads, i);
-        rewriting::apply_rule(s, rule);
-        i += 1;
-    }
-}
-
-// How long the first piece is: up to an end tag with it, or all.
-fn first_piece(s: &[u8], end: u8) -> usize
-    ensures { λ r. ⌜ FirstPiece (now (s .entry)) end r ⌝ }
-{
-    let mut i = 0;
-    while i < s.len() {
-        if s[i] == end {
-            return i + 1;
-        }
-        i += 1;
-    }
-    i
-}
-
-// The rules to the first piece, and how long it is.
-fn apply_first(
-    s: &mut [u8],
-    end: u8,
-    rows: &[[u8; PATTERN]; RULES],
-    lengths: &[usize; RULES],
-    heads: &[[u8; HEAD]; RULES],
-    m: usize,
-) -> usize
-    requires { ⌜ Usable m (arrays rows lengths heads) ⌝ }
-    ensures { λ r. ⌜ Begun (piecewise end (applyAll (rulesOf (arrays (rows .entry) (lengths .entry) (heads .entry)) m))) (piecewise end (applyAll (rulesOf (arrays (rows .entry) (lengths .entry) (heads .entry)) m))) (now (s .entry)) (now (s .exit)) r × (0 < length (now (s .entry)) → 0 < r) ⌝ }
-{
-    let n = first_piece(s, end);
-    apply_rules(&mut s[..n], rows, lengths, heads, m);
-    n
-}
-
-// The rules to each piece.
-fn apply_pieces(
-    s: &mut [u8],
-    end: u8,
-    rows: &[[u8; PATTERN]; RULES],
-    lengths: &[usize; RULES],
-    heads: &[[u8; HEAD]; RULES],
-    m: usize,
-)
-    requires { ⌜ Usable m (arrays rows lengths heads) ⌝ }
-    ensures { λ _. ⌜ now (s .exit) ≡ piecewise end (applyAll (rulesOf (arrays (rows .entry) (lengths .entry) (heads .entry)) m)) (now (s .entry)) ⌝ }
-{
-    let mut from = 0;
-    while from < s.len() {
-        from += apply_first(&mut s[from..], end, rows, lengths, heads, m);
-    }
-}
+ghost use Rattle.tagger.specs.Numbers.{bookNumbers};
+ghost use Rattle.tagger.specs.Rules.{cascadeRun, cascadeNumbers};
 
 // The sentence to the front of `out`, and the first m rules of the arrays applied there: the number of changed tags.
 fn write_rules(
@@ -102,16 +41,18 @@ fn write_rules(
     requires { ⌜ length (now sentence) ≤ length (now out) ⌝ }
     ensures { λ r. ⌜ Wrote (applyAll (rulesOf (arrays (rows .entry) (lengths .entry) (heads .entry)) m) (now (sentence .entry))) (now (sentence .entry)) (now (out .entry)) (now (out .exit)) r ⌝ }
 {
+    let mut none = [0u8; 0];
     let n = sentence.len();
     sentences::copy(sentence, out);
-    apply_rules(&mut out[..n], rows, lengths, heads, m);
+    application::apply_rules(&mut out[..n], &mut none[..], rows, lengths, heads, m);
     sentences::count_changes(sentence, &out[..n])
 }
 
-// The same, and the rules applied to each piece.
+// The same, and the rules applied to each piece, with their numbers.
 fn write_pieces(
     sentence: &[u8],
     out: &mut [u8],
+    v: &mut [u8],
     end: u8,
     m: usize,
     rows: &[[u8; PATTERN]; RULES],
@@ -119,12 +60,14 @@ fn write_pieces(
     heads: &[[u8; HEAD]; RULES],
 ) -> usize
     requires { ⌜ Usable m (arrays rows lengths heads) ⌝ }
-    requires { ⌜ length (now sentence) ≤ length (now out) ⌝ }
-    ensures { λ r. ⌜ Wrote (piecewise end (applyAll (rulesOf (arrays (rows .entry) (lengths .entry) (heads .entry)) m)) (now (sentence .entry))) (now (sentence .entry)) (now (out .entry)) (now (out .exit)) r ⌝ }
+    requires { ⌜ Below no-end (now sentence) × (length (now sentence) ≤ length (now out)) × Room (length (now sentence)) (now v) ⌝ }
+    ensures out { λ r. ⌜ Wrote (piecewise end (applyAll (rulesOf (arrays (rows .entry) (lengths .entry) (heads .entry)) m)) (now (sentence .entry))) (now (sentence .entry)) (now (out .entry)) (now (out .exit)) r ⌝ }
+    ensures v { λ _. ⌜ (length (now (sentence .entry)) ≤ length (now (v .entry)) → now (v .exit) ≡ piecewise end (numbersOf (rulesOf (arrays (rows .entry) (lengths .entry) (heads .entry)) m)) (now (sentence .entry)) ++ drop (length (now (sentence .entry))) (now (v .entry))) ⌝ }
 {
     let n = sentence.len();
+    let noted = lesser(n, v.len());
     sentences::copy(sentence, out);
-    apply_pieces(&mut out[..n], end, rows, lengths, heads, m);
+    application::apply_book(&mut out[..n], &mut v[..noted], end, rows, lengths, heads, m);
     sentences::count_changes(sentence, &out[..n])
 }
 
@@ -149,10 +92,12 @@ fn run_rules(
     RunAnswer::Changed(changes)
 }
 
-// Runs them over each piece: 14, then 13, 4 and 11.
+// Runs them over each piece, where the slices that get a result have at least `room` bytes: 14, then 13, 4 and 11.
 fn run_pieces(
     sentence: &[u8],
     out: &mut [u8],
+    v: &mut [u8],
+    room: usize,
     k: u8,
     end: u8,
     m: usize,
@@ -161,33 +106,46 @@ fn run_pieces(
     heads: &[[u8; HEAD]; RULES],
 ) -> RunAnswer
     requires { ⌜ Usable m (arrays rows lengths heads) ⌝ }
-    ensures { λ r. ⌜ Ran (cascadeRun end (cascadeOf k (arrays (rows .entry) (lengths .entry) (heads .entry)) m) (now (sentence .entry)) (length (now (out .entry)))) (now (sentence .entry)) (now (out .entry)) (now (out .exit)) r ⌝ }
+    requires { ⌜ (k ≤ no-end) × (room ≤ length (now out)) × Room room (now v) ⌝ }
+    ensures out { λ r. ⌜ Ran (cascadeRun end (cascadeOf k (arrays (rows .entry) (lengths .entry) (heads .entry)) m) (now (sentence .entry)) room) (now (sentence .entry)) (now (out .entry)) (now (out .exit)) r ⌝ }
+    ensures v { λ _. ⌜ (room ≤ length (now (v .entry)) → now (v .exit) ≡ written (cascadeNumbers end (cascadeOf k (arrays (rows .entry) (lengths .entry) (heads .entry)) m) (now (sentence .entry)) room) (now (v .entry))) ⌝ }
 {
     if endings::bad_end(k, rows, lengths, heads, m, end) {
         return RunAnswer::Refused(Refusal::Bare { number: 14 });
     }
-    let admitted = sentences::admit(sentence, k, out.len());
+    let admitted = sentences::admit(sentence, k, room);
     if let Admission::Refused(refusal) = admitted {
         return RunAnswer::Refused(refusal);
     }
-    let changed = write_pieces(sentence, out, end, m, rows, lengths, heads);
+    let changed = write_pieces(sentence, out, v, end, m, rows, lengths, heads);
     RunAnswer::Changed(changed)
 }
 
-// Runs a book over a sentence, piece by piece where an end tag ends them: the number of changed tags, with the result in the first bytes of
-// `out`; or the refusal.
-pub fn run_book_ending(book: &[u8], end: u8, sentence: &[u8], out: &mut [u8]) -> RunAnswer
-    ensures { λ r. ⌜ Ran (bookRun (now (book .entry)) end (now (sentence .entry)) (length (now (out .entry)))) (now (sentence .entry)) (now (out .entry)) (now (out .exit)) r ⌝ }
+// Runs a book over a sentence, where the slices that get a result have at least `room` bytes.
+fn run_into(
+    book: &[u8],
+    end: u8,
+    sentence: &[u8],
+    out: &mut [u8],
+    v: &mut [u8],
+    room: usize,
+) -> RunAnswer
+    requires { ⌜ (room ≤ length (now out)) × Room room (now v) ⌝ }
+    ensures out { λ r. ⌜ Ran (bookRun (now (book .entry)) end (now (sentence .entry)) room) (now (sentence .entry)) (now (out .entry)) (now (out .exit)) r ⌝ }
+    ensures v { λ _. ⌜ (room ≤ length (now (v .entry)) → now (v .exit) ≡ written (bookNumbers (now (book .entry)) end (now (sentence .entry)) room) (now (v .entry))) ⌝ }
 {
     let mut rows = [[0u8; PATTERN]; RULES];
     let mut lengths = [0usize; RULES];
     let mut heads = [[0u8; HEAD]; RULES];
-    let got = books::read_into(book, &mut rows, &mut lengths, &mut heads);
+    let n = book.len();
+    let got = books::read_into(&book[..n], &mut rows, &mut lengths, &mut heads);
     match got {
         BookAnswer::Refused(refusal) => RunAnswer::Refused(refusal),
         BookAnswer::Book { tags: k, rules } => run_pieces(
             sentence,
             out,
+            v,
+            room,
             k,
             end,
             rules,
@@ -198,7 +156,32 @@ pub fn run_book_ending(book: &[u8], end: u8, sentence: &[u8], out: &mut [u8]) ->
     }
 }
 
-// Runs a book over a sentence: the same with no end tag. It has no test for one, and is the quicker for it.
+// Runs a book over a sentence, piece by piece where an end tag ends them: the number of changed tags, with the result in the first bytes of
+// `out`, and in those of `rules` the number of the last rule that rewrote each tag, 0 for none; or the refusal.
+pub fn run_book_rules(
+    book: &[u8],
+    end: u8,
+    sentence: &[u8],
+    out: &mut [u8],
+    rules: &mut [u8],
+) -> RunAnswer
+    ensures out { λ r. ⌜ Ran (bookRun (now (book .entry)) end (now (sentence .entry)) (min (length (now (out .entry))) (length (now (rules .entry))))) (now (sentence .entry)) (now (out .entry)) (now (out .exit)) r ⌝ }
+    ensures rules { λ _. ⌜ now (rules .exit) ≡ written (bookNumbers (now (book .entry)) end (now (sentence .entry)) (min (length (now (out .entry))) (length (now (rules .entry))))) (now (rules .entry)) ⌝ }
+{
+    let room = lesser(out.len(), rules.len());
+    run_into(book, end, sentence, out, rules, room)
+}
+
+// The same without the numbers.
+pub fn run_book_ending(book: &[u8], end: u8, sentence: &[u8], out: &mut [u8]) -> RunAnswer
+    ensures { λ r. ⌜ Ran (bookRun (now (book .entry)) end (now (sentence .entry)) (length (now (out .entry)))) (now (sentence .entry)) (now (out .entry)) (now (out .exit)) r ⌝ }
+{
+    let mut none = [0u8; 0];
+    let room = out.len();
+    run_into(book, end, sentence, out, &mut none[..], room)
+}
+
+// Runs a book over a sentence without an end tag. It has no test for one, and is the quicker for it.
 pub fn run_book(book: &[u8], sentence: &[u8], out: &mut [u8]) -> RunAnswer
     ensures { λ r. ⌜ Ran (bookRun (now (book .entry)) no-end (now (sentence .entry)) (length (now (out .entry)))) (now (sentence .entry)) (now (out .entry)) (now (out .exit)) r ⌝ }
 {

@@ -1,9 +1,14 @@
 -- `rewriting::apply_rule` meets its contract.
 use native.Mathlib.Omega.{arith}
-use mathlib.Core.Path.{_≡_, sym}
+use mathlib.Core.Path.{_≡_, sym, ap, _∙_}
+use mathlib.Core.List.{List}
+use Prim.Native.Nat.{ℕ}
 use lib.ListN.{length, take}
 use lib.Seq.{length-take-le}
 use borrow.Author.Needs.{needs}
+use Rattle.cascades.specs.Value.{ruleOf}
+use Rattle.traces.specs.Note.{note}
+use Rattle.traces.proofs.Note.{mark-is-note}
 use Rattle.rewriting.proofs.apply_rule.Statement.{statement}
 use Rattle.rewriting.proofs.apply_rule.Tie as tie
 use Rattle.rewriting.proofs.apply_rule.Reads as reads
@@ -17,18 +22,30 @@ array-share-prefix-row : tie.Need-array-share-prefix-row
 array-share-prefix-row c = search needs
 
 slice-aggregate-rewrite : tie.Need-slice-aggregate-rewrite
-slice-aggregate-rewrite c = sym (pattern-long (c .before .before .before .before))
+slice-aggregate-rewrite c = sym (pattern-long (c .before .before .before .before .before .before))
 
 rewrite-requires : tie.Need-rewrite-requires
-rewrite-requires c κs = omega (arith, pattern-long (c .before .before .before .before), c .before .before .before .before .pre .1)
+rewrite-requires c κs =
+    let st = c .before .before .before .before .before .before in
+    (omega (arith, pattern-long st, st .pre .1), st .pre .2, st .pre .3)
 
 same-length : tie.Need-same-length
 same-length c = search needs
 
+same-length-2 : tie.Need-same-length-2
+same-length-2 c = search needs
+
 returns : tie.Need-returns
-returns c = search needs
+returns c =
+    let st = c .before .before .before .before .before .before .before .before .before .before .before in
+    let a = st .args in
+    let w = c .before .before .before .before .rewrite in (
+      w .ensures .0,
+      w .ensures .1 ∙ ap (λ (y : List ℕ). note (a .x) (a .s .now) y (a .v .now)) (w .ensures .0)
+          ∙ sym (mark-is-note (ruleOf (a .rule)) (omega (arith, pattern-long st, st .pre .1)) (st .pre .2) (a .x) (a .s .now) (a .v .now)),
+    )
 
 pub apply-rule-spec : {M : Type 1} → statement M
 apply-rule-spec =
     tie.close
-    (tie.spec array-share-prefix-row slice-aggregate-rewrite rewrite-requires same-length returns)
+    (tie.spec array-share-prefix-row slice-aggregate-rewrite rewrite-requires same-length same-length-2 returns)

@@ -1,40 +1,46 @@
--- `rewriting::rewrite` meets its contract: the rewriting of the sentence is done as far as the part that is searched next.
+-- `rewriting::rewrite` meets its contract: the rewriting of the sentence is done as far as the part that is searched next, and each tag that has
+-- become another has its number.
 use native.Mathlib.Omega.{arith}
 use Prim.Native.Nat.{ℕ, _+_, _-_, _≤_}
 use borrow.Author.Needs.{needs}
-use mathlib.Core.Path.{_≡_, subst}
+use mathlib.Core.Path.{_≡_, refl, sym, ap, _∙_, subst}
 use mathlib.Core.List.{List}
-use lib.ListN.{length, drop, set}
+use lib.ListN.{length, drop, set, length-set}
 use Rattle.words.specs.Parts.{Begun}
 use Rattle.words.proofs.Parts.{begun-start}
 use Rattle.cascades.specs.Value.{rule, kindOf}
 use Rattle.cascades.specs.Rewrite.{behind, apply}
-use Rattle.cascades.proofs.Rewrite.{begun-short}
 use Rattle.places.specs.declared.Occurrence.the-variants.{At}
 use Rattle.leftmost.specs.Leftmost.{Found}
-use Rattle.rewriting.proofs.Rewriting.{Going, room-behind, match-behind, none-behind, fired-once, fires-again}
+use Rattle.traces.specs.Note.{note}
+use Rattle.traces.proofs.Note.{note-same, note-long}
+use Rattle.rewriting.proofs.Rewriting.{Going, Noted, room-behind, match-behind, match-noted, none-behind, fired-once, fires-again}
 use Rattle.rewriting.proofs.rewrite.Statement.{statement}
 use Rattle.rewriting.proofs.rewrite.Tie as tie
 use Rattle.rewriting.proofs.rewrite.Reads as reads
 use Rattle.rewriting.proofs.rewrite.Lts as lts
 use Rattle.leftmost.proofs.find.Reads as find-reads
+use Rattle.rewriting.proofs.put.Reads as put-reads
 
 abbrev Inv-loop : tie.InvT-loop
-Inv-loop s₀ u p tag everywhere n from₀ s from = Going (kindOf everywhere) u p tag s₀ s from
+Inv-loop s₀ v₀ u p tag everywhere x n from₀ s v from = Going (kindOf everywhere) u p tag s₀ s from × Noted x s₀ v₀ s v from
 
 abbrev μ-loop : tie.MeasureT-loop
-μ-loop s₀ u p tag everywhere n from₀ s from = length s - from
+μ-loop s₀ v₀ u p tag everywhere x n from₀ s v from = length s - from
 
--- the part's leftmost match, that it has room, and what the new tag there leaves to be done
+-- the part's leftmost match, that it has room, and what the new tag and the number there leave to be done
 module _ (c : tie.After-known-told Inv-loop μ-loop) where
   abbrev st : tie.Start Inv-loop μ-loop
   st = c .before .before .before .before .before .before .before .before .before
 
   abbrev from : ℕ
-  from = c .before .before .before .before .before .before .loop .from
+  from = c .before .before .before .before .before .loop .from
 
   abbrev s : List ℕ
-  s = c .before .before .before .before .before .before .loop .s
+  s = c .before .before .before .before .before .loop .s
+
+  abbrev v : List ℕ
+  v = c .before .before .before .before .before .loop .v
 
   abbrev at : ℕ
   at = c .before .found .given .0 .0
@@ -42,25 +48,47 @@ module _ (c : tie.After-known-told Inv-loop μ-loop) where
   found : Found (st .args .u .now) (drop from s) (At at)
   found = subst (Found (st .args .u .now) _) (c .before .found .given .1) (c .before .before .before .find .ensures)
 
+  going : Going (kindOf (st .args .everywhere)) (st .args .u .now) (st .args .p) (st .args .tag) (st .args .s .now) s from
+  going = c .before .before .before .before .before .loop .inv .0
+
   room : from + at + length (st .args .u .now) ≤ length s
-  room = room-behind (kindOf (st .args .everywhere)) (st .args .u .now) (st .args .p) (st .args .tag) (st .pre) (st .args .s .now) s from (c .before .before .before .before .before .before .loop .inv) at found
+  room = room-behind (kindOf (st .args .everywhere)) (st .args .u .now) (st .args .p) (st .args .tag) (st .pre .0) (st .args .s .now) s from going at found
+
+  abbrev next : List ℕ
+  next = set s (from + at + st .args .p) (st .args .tag)
 
   abbrev Matched : Type 0
   Matched =
       Begun (apply (rule (kindOf (st .args .everywhere)) (st .args .u .now) (st .args .p) (st .args .tag)))
       (behind (kindOf (st .args .everywhere)) (apply (rule (kindOf (st .args .everywhere)) (st .args .u .now) (st .args .p) (st .args .tag)))) (st .args .s .now)
-      (set s (from + at + st .args .p) (st .args .tag)) (from + at + length (st .args .u .now))
+      next next (from + at + length (st .args .u .now))
 
   matched : Matched
-  matched = match-behind (kindOf (st .args .everywhere)) (st .args .u .now) (st .args .p) (st .args .tag) (st .pre) (st .args .s .now) s from (c .before .before .before .before .before .before .loop .inv) at found
+  matched = match-behind (kindOf (st .args .everywhere)) (st .args .u .now) (st .args .p) (st .args .tag) (st .pre .0) (st .args .s .now) s from going at found
+
+  noted : Noted (st .args .x) (st .args .s .now) (st .args .v .now) next (set v (from + at + st .args .p) (st .args .x)) (from + at + length (st .args .u .now))
+  noted =
+      match-noted (kindOf (st .args .everywhere)) (st .args .u .now) (st .args .p) (st .args .tag) (st .pre .0) (st .args .s .now) s from going at found (st .args .x) (st .args .v .now) v (st .pre .1)
+      (c .before .before .before .before .before .loop .inv .1)
+
+  numbers-long : length v ≡ length (st .args .v .now)
+  numbers-long = ap length (c .before .before .before .before .before .loop .inv .1 .numbers) ∙ note-long (st .args .x) (st .args .s .now) s (st .args .v .now)
+
+-- behind the number that was put
+module _ (c : tie.After-put Inv-loop μ-loop) where
+  abbrev match : tie.After-known-told Inv-loop μ-loop
+  match = c .before .before
+
+  numbers : c .put .last .0 ≡ note (st match .args .x) (st match .args .s .now) (next match) (st match .args .v .now)
+  numbers = c .put .ensures ∙ noted match .numbers
 
 loop-holds : tie.Need-loop-holds Inv-loop μ-loop
 loop-holds c =
-    let a = c .before .before .args in
-    begun-start (apply (rule (kindOf (a .everywhere)) (a .u .now) (a .p) (a .tag))) (a .s .now)
+    let a = c .before .before .before .args in
+    (begun-start (apply (rule (kindOf (a .everywhere)) (a .u .now) (a .p) (a .tag))) (a .s .now) (a .s .now) refl, record { numbers = sym (note-same (a .x) (a .s .now) (a .v .now)); rest = refl })
 
 find-requires : tie.Need-find-requires Inv-loop μ-loop
-find-requires c κs = search needs
+find-requires c κs = (omega (arith, c .before .before .before .before .before .pre .0), c .before .loop .inv .0 .inside)
 
 enum-known-found : tie.Need-enum-known-found Inv-loop μ-loop
 enum-known-found c = search needs
@@ -69,56 +97,72 @@ enum-told : tie.Need-enum-told Inv-loop μ-loop
 enum-told c = search needs
 
 same-length : tie.Need-same-length Inv-loop μ-loop
-same-length c = c .before .before .before .before .before .loop .inv .long
+same-length c = c .before .before .before .before .loop .inv .0 .long
+
+same-length-2 : tie.Need-same-length-2 Inv-loop μ-loop
+same-length-2 c =
+    let l = c .before .before .before .before .loop in
+    let a = c .before .before .before .before .before .before .before .before .args in
+    ap length (l .inv .1 .numbers) ∙ note-long (a .x) (a .s .now) (l .s) (a .v .now)
 
 returns : tie.Need-returns Inv-loop μ-loop
 returns c =
     let st = c .before .before .before .before .before .before .before .before in
-    let l = c .before .before .before .before .before .loop in
-    none-behind (kindOf (st .args .everywhere)) (st .args .u .now) (st .args .p) (st .args .tag) (st .pre) (st .args .s .now) (l .s) (l .from) (l .inv)
-    (subst (Found (st .args .u .now) _) (c .enum-told .given .1) (c .before .before .find .ensures))
+    let l = c .before .before .before .before .loop in (
+      none-behind (kindOf (st .args .everywhere)) (st .args .u .now) (st .args .p) (st .args .tag) (st .pre .0) (st .args .s .now) (l .s) (l .from) (l .inv .0)
+          (subst (Found (st .args .u .now) _) (c .enum-told .given .1) (c .before .before .find .ensures)),
+      l .inv .1 .numbers,
+    )
 
-add-s : tie.Need-add-s Inv-loop μ-loop
-add-s c = omega (arith, room c)
+add-at : tie.Need-add-at Inv-loop μ-loop
+add-at c = omega (arith, room c)
 
-add-s-2 : tie.Need-add-s-2 Inv-loop μ-loop
-add-s-2 c = omega (arith, room c)
+add-at-2 : tie.Need-add-at-2 Inv-loop μ-loop
+add-at-2 c = omega (arith, room c)
 
 slice-write-s : tie.Need-slice-write-s Inv-loop μ-loop
 slice-write-s c = omega (arith, room c)
 
-same-length-2 : tie.Need-same-length-2 Inv-loop μ-loop
-same-length-2 c = matched (c .before) .long
+put-requires : tie.Need-put-requires Inv-loop μ-loop
+put-requires c κs = let m = c .before in λ h. omega (arith, room m, st m .pre .0, going m .long, numbers-long m, st m .pre .2 (omega (arith, h, numbers-long m)))
+
+same-length-3 : tie.Need-same-length-3 Inv-loop μ-loop
+same-length-3 c = let m = match (c .before .before .before) in length-set (s m) _ _ ∙ going m .long
+
+same-length-4 : tie.Need-same-length-4 Inv-loop μ-loop
+same-length-4 c =
+    let p = c .before .before .before in
+    let m = match p in
+    ap length (numbers p) ∙ note-long (st m .args .x) (st m .args .s .now) (next m) (st m .args .v .now)
 
 returns-2 : tie.Need-returns-2 Inv-loop μ-loop
 returns-2 c =
-    let a = c .before .before .before .before .before .before .before .before .before .before .args in
-    fired-once (a .u .now) (a .p) (a .tag) (a .s .now) _ _ (a .everywhere) (c .if1 .taken) (matched (c .before))
+    let p = c .before .before .before in
+    let m = match p in
+    let a = st m .args in
+    (fired-once (a .u .now) (a .p) (a .tag) (a .s .now) _ _ (a .everywhere) (c .if1 .taken) (matched m), numbers p)
 
 add-from : tie.Need-add-from Inv-loop μ-loop
-add-from c = omega (arith, room (c .before))
+add-from c = omega (arith, room (match (c .before .before .before)))
 
 add-from-2 : tie.Need-add-from-2 Inv-loop μ-loop
-add-from-2 c = omega (arith, room (c .before))
+add-from-2 c = omega (arith, room (match (c .before .before .before)))
 
 loop-less : tie.Need-loop-less Inv-loop μ-loop
-loop-less c = omega (arith, room (c .before), matched (c .before) .long)
+loop-less c =
+    let m = match (c .before .before .before) in
+    omega (arith, room m, matched m .long)
 
 loop-again : tie.Need-loop-again Inv-loop μ-loop
 loop-again c =
-    let a = c .before .before .before .before .before .before .before .before .before .before .args in
-    let b = c .before in
-    let e : from b + at b + length (a .u .now) ≡ from b + (at b + length (a .u .now)) = omega arith in
-    subst (Going (kindOf (a .everywhere)) (a .u .now) (a .p) (a .tag) (a .s .now) _) e
-    (fires-again (a .u .now) (a .p) (a .tag) (a .s .now) _ _ (a .everywhere) (c .if1 .left) (matched b))
-
-same-length-3 : tie.Need-same-length-3 Inv-loop μ-loop
-same-length-3 c = c .before .loop .inv .long
-
-returns-3 : tie.Need-returns-3 Inv-loop μ-loop
-returns-3 c =
-    let a = c .before .before .before .before .args in
-    begun-short (rule (kindOf (a .everywhere)) (a .u .now) (a .p) (a .tag)) (a .s .now) (c .before .loop .s) (c .before .loop .from) (c .before .loop .inv) (omega arith)
+    let p = c .before .before .before in
+    let m = match p in
+    let a = st m .args in
+    let e : from m + at m + length (a .u .now) ≡ from m + (at m + length (a .u .now)) = omega arith in (
+      subst (Going (kindOf (a .everywhere)) (a .u .now) (a .p) (a .tag) (a .s .now) _) e
+          (fires-again (a .u .now) (a .p) (a .tag) (a .s .now) _ _ (a .everywhere) (c .if1 .left) (matched m)),
+      record { numbers = numbers p; rest = subst (λ (n : ℕ). drop n (next m) ≡ drop n (a .s .now)) e (noted m .rest) },
+    )
 
 pub rewrite-spec : {M : Type 1} → statement M
 rewrite-spec =
@@ -131,15 +175,16 @@ rewrite-spec =
     enum-known-found
     enum-told
     same-length
-    returns
-    add-s
-    add-s-2
-    slice-write-s
     same-length-2
+    returns
+    add-at
+    add-at-2
+    slice-write-s
+    put-requires
+    same-length-3
+    same-length-4
     returns-2
     add-from
     add-from-2
     loop-less
-    loop-again
-    same-length-3
-    returns-3)
+    loop-again)

@@ -11,6 +11,7 @@ use Rattle.sentences.proofs.Run.{ran-refused}
 use Rattle.books.specs.Arrays.{holding}
 use Rattle.books.proofs.Arrays.{fresh-shaped}
 use Rattle.tagger.specs.Run.{bookRun}
+use Rattle.cascades.specs.Rewrite.{behavior}
 use Rattle.tagger.proofs.Run.{book-refused, book-runs-whole, applicable}
 use Rattle.tagger.proofs.run_book.Statement.{statement}
 use Rattle.tagger.proofs.run_book.Tie as tie
@@ -42,7 +43,7 @@ returns c =
     let r = c .before .before .before .read-into in
     let a = holding (r .last .1 .0) (r .last .1 .1 .0) (r .last .1 .1 .1 .0) in
     ran-refused (bookRun (st .args .book .now) no-end (st .args .sentence .now) (length (st .args .out .now))) (st .args .sentence .now) (st .args .out .now) (c .before .got .given .0 .0)
-    (book-refused (st .args .book .now) a (r .result) (r .ensures) no-end (st .args .sentence .now) (length (st .args .out .now)) _ (c .before .got .given .1))
+    (book-refused (st .args .book .now) a (r .result) (r .ensures) behavior no-end (st .args .sentence .now) (length (st .args .out .now)) _ (c .before .got .given .1))
 
 same-length : tie.Need-same-length
 same-length c = search needs

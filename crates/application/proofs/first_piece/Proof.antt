@@ -1,14 +1,14 @@
--- `tagger::first_piece` meets its contract.
+-- `application::first_piece` meets its contract.
 use Prim.Native.Nat.{_-_, _≤_}
 use native.Mathlib.Omega.{arith}
 use borrow.Author.Needs.{needs}
 use lib.ListN.{length, take}
 use Rattle.words.proofs.Pieces.{Without}
-use Rattle.tagger.proofs.Pieces.{passed-more, ends-here, ends-nowhere}
-use Rattle.tagger.proofs.first_piece.Statement.{statement}
-use Rattle.tagger.proofs.first_piece.Tie as tie
-use Rattle.tagger.proofs.first_piece.Reads as reads
-use Rattle.tagger.proofs.first_piece.Lts as lts
+use Rattle.application.proofs.Pieces.{passed-more, ends-here, ends-nowhere}
+use Rattle.application.proofs.first_piece.Statement.{statement}
+use Rattle.application.proofs.first_piece.Tie as tie
+use Rattle.application.proofs.first_piece.Reads as reads
+use Rattle.application.proofs.first_piece.Lts as lts
 
 abbrev Inv-loop : tie.InvT-loop
 Inv-loop s end i₀ i = (i ≤ length s) × Without end (take i s)

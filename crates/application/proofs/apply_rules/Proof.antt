@@ -1,0 +1,126 @@
+-- `application::apply_rules` meets its contract. The loop's invariant: the rules passed have been applied, and their numbers stand beside the tags.
+use Prim.Native.Nat.{ℕ, _+_, _-_, _≤_, _<_}
+use native.Mathlib.Omega.{arith}
+use borrow.Author.Needs.{needs}
+use mathlib.Core.Path.{_≡_, refl, sym, _∙_, ap, ap₂, subst}
+use mathlib.Core.List.{List}
+use lib.ListN.{length, getD}
+use Rattle.cascades.specs.Rule.{Rule}
+use Rattle.cascades.specs.Rewrite.{applyAll}
+use Rattle.cascades.specs.Value.{ruleOf}
+use Rattle.books.specs.Arrays.{Arrays, holding, rulesOf}
+use Rattle.endings.proofs.Ending.{rule-inside}
+use Rattle.traces.specs.Trace.{beside, traceFrom}
+use Rattle.application.proofs.Rules.{rule-next, number-next}
+use Rattle.application.proofs.apply_rules.Statement.{statement}
+use Rattle.application.proofs.apply_rules.Tie as tie
+use Rattle.application.proofs.apply_rules.Reads as reads
+use Rattle.application.proofs.apply_rules.Lts as lts
+use Rattle.application.proofs.clear.Reads as clear-reads
+use Rattle.books.proofs.rule_at.Reads as rule-at-reads
+use Rattle.rewriting.proofs.apply_rule.Reads as apply-rule-reads
+
+abbrev Inv-loop : tie.InvT-loop
+Inv-loop s₀ v₀ rows lengths heads m i₀ s v i =
+    (i ≤ m) × (length s ≡ length s₀) × (s ≡ applyAll (rulesOf (holding rows lengths heads) i) s₀) × (length v ≡ length v₀)
+    × (v ≡ traceFrom 1 (rulesOf (holding rows lengths heads) i) (beside s₀ v₀) .numbers)
+
+abbrev μ-loop : tie.MeasureT-loop
+μ-loop s₀ v₀ rows lengths heads m i₀ s v i = m - i
+
+abbrev arrays : tie.Start Inv-loop μ-loop → Arrays
+arrays st = holding (st .args .rows .now) (st .args .lengths .now) (st .args .heads .now)
+
+clear-requires : tie.Need-clear-requires Inv-loop μ-loop
+clear-requires c κs = search needs
+
+loop-holds : tie.Need-loop-holds Inv-loop μ-loop
+loop-holds c = (omega arith, refl, refl, refl, refl)
+
+rule-at-requires : tie.Need-rule-at-requires Inv-loop μ-loop
+rule-at-requires c κs =
+    let st = c .before .before .before .before .before .before .before .before in
+    (st .pre .0 .shaped, omega (arith, st .pre .0 .few))
+
+add-i : tie.Need-add-i Inv-loop μ-loop
+add-i c = search needs
+
+-- the rule that was read
+module _ (c : tie.After-rule-at Inv-loop μ-loop) where
+  abbrev st : tie.Start Inv-loop μ-loop
+  st = c .before .before .before .before .before .before .before .before .before
+
+  abbrev i : ℕ
+  i = c .before .before .loop .i
+
+  number-small : i + 1 ≤ 16
+  number-small = omega (arith, st .pre .0 .few)
+
+  rule-new : getD (ruleOf (c .rule-at .result) .pattern) (ruleOf (c .rule-at .result) .place) 0 ≡ ruleOf (c .rule-at .result) .tag → ⊥
+  rule-new = subst (λ (r : Rule). getD (r .pattern) (r .place) 0 ≡ r .tag → ⊥) (sym (c .rule-at .ensures .0)) (st .pre .0 .new i (omega arith))
+
+  room : 0 < length (c .before .before .loop .v) → length (c .before .before .loop .s) ≤ length (c .before .before .loop .v)
+  room h =
+      let l = c .before .before .loop in
+      let cleared = c .before .before .before .before .before .clear .kept .0 in
+      omega (arith, l .inv .1, l .inv .3, cleared, st .pre .1 (omega (arith, h, l .inv .3, cleared)))
+
+cast-apply-rule : tie.Need-cast-apply-rule Inv-loop μ-loop
+cast-apply-rule c = omega (arith, number-small (c .before .before))
+
+apply-rule-requires : tie.Need-apply-rule-requires Inv-loop μ-loop
+apply-rule-requires c κs =
+    let p = c .before .before in
+    let r = p .rule-at in
+    let s = st p in
+    (r .ensures .1, rule-inside (arrays s) (i p) (r .result) (r .ensures .0) (r .ensures .1) (s .pre .0 .shaped) (omega (arith, number-small p)) (s .pre .0 .inside (i p) (omega arith)), rule-new p, λ h. room p h)
+
+loop-less : tie.Need-loop-less Inv-loop μ-loop
+loop-less c = search needs
+
+loop-again : tie.Need-loop-again Inv-loop μ-loop
+loop-again c =
+    let p = c .before .before .before .before .before .before .before in
+    let s = st p in
+    let l = p .before .before .loop in
+    let r = p .rule-at in
+    let called = c .before .before .before .before .apply-rule in (
+      omega arith,
+      called .kept .0 ∙ l .inv .1,
+      called .ensures .0 ∙ rule-next (arrays s) (l .i) (ruleOf (r .result)) (r .ensures .0) (s .args .s .now) (l .s) (l .inv .2),
+      called .kept .1 .0 ∙ l .inv .3,
+      called .ensures .1 ∙ number-next (arrays s) (l .i) (ruleOf (r .result)) (r .ensures .0) _ (s .args .s .now) (l .s) (l .v) _ refl (l .inv .2) (l .inv .4),
+    )
+
+same-length : tie.Need-same-length Inv-loop μ-loop
+same-length c = search needs
+
+same-length-2 : tie.Need-same-length-2 Inv-loop μ-loop
+same-length-2 c = c .before .loop .inv .3 ∙ c .before .before .before .before .clear .kept .0
+
+returns : tie.Need-returns Inv-loop μ-loop
+returns c =
+    let st = c .before .before .before .before .before .before .before .before in
+    let l = c .before .loop in
+    let e : l .i ≡ st .args .m = omega arith in (
+      l .inv .2 ∙ ap (λ (n : ℕ). applyAll (rulesOf (arrays st) n) (st .args .s .now)) e,
+      l .inv .4 ∙ ap₂ (λ (n : ℕ) (z : List ℕ). traceFrom 1 (rulesOf (arrays st) n) (beside (st .args .s .now) z) .numbers) e (c .before .before .before .before .clear .ensures),
+    )
+
+pub apply-rules-spec : {M : Type 1} → statement M
+apply-rules-spec =
+    tie.close
+    (tie.spec
+    Inv-loop
+    μ-loop
+    clear-requires
+    loop-holds
+    rule-at-requires
+    add-i
+    cast-apply-rule
+    apply-rule-requires
+    loop-less
+    loop-again
+    same-length
+    same-length-2
+    returns)

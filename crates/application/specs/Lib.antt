@@ -1,0 +1,2 @@
+-- A piece of a sentence.
+pub mod Pieces

@@ -1,0 +1,140 @@
+// A book's rules applied to a sentence where it stands, piece by piece. Beside it lies v, which gets the number of the last rule that rewrote each
+// tag; a v of no length is for runs that want no numbers.
+use books::HEAD;
+use limits::NO_END;
+use limits::PATTERN;
+use limits::RULES;
+use words::lesser;
+ghost use mathlib.Core.Path.{_≡_};
+ghost use Prim.Native.Nat.{_<_};
+ghost use lib.ListN.{length, replicate};
+ghost use Rattle.limits.specs.Limits.{no-end};
+ghost use Rattle.words.specs.Word.{Below};
+ghost use Rattle.words.specs.Pieces.{piecewise};
+ghost use Rattle.words.specs.Parts.{Begun};
+ghost use Rattle.cascades.specs.Rewrite.{applyAll};
+ghost use Rattle.books.specs.Arrays.{arrays, rulesOf};
+ghost use Rattle.endings.specs.Usable.{Usable};
+ghost use Rattle.traces.specs.Trace.{beside, traceFrom, numbersOf};
+ghost use Rattle.traces.specs.Note.{Room};
+ghost use Rattle.application.specs.Pieces.{FirstPiece};
+
+// 0 in every place.
+fn clear(v: &mut [u8])
+    ensures { λ _. ⌜ now (v .exit) ≡ replicate (length (now (v .entry))) 0 ⌝ }
+{
+    let mut i = 0;
+    while i < v.len() {
+        v[i] = 0;
+        i += 1;
+    }
+}
+
+// The first m rules of the arrays, applied to s in order, and their numbers.
+pub fn apply_rules(
+    s: &mut [u8],
+    v: &mut [u8],
+    rows: &[[u8; PATTERN]; RULES],
+    lengths: &[usize; RULES],
+    heads: &[[u8; HEAD]; RULES],
+    m: usize,
+)
+    requires { ⌜ Usable m (arrays rows lengths heads) × Room (length (now s)) (now v) ⌝ }
+    ensures s { λ _. ⌜ now (s .exit) ≡ applyAll (rulesOf (arrays (rows .entry) (lengths .entry) (heads .entry)) m) (now (s .entry)) ⌝ }
+    ensures v { λ _. ⌜ now (v .exit) ≡ traceFrom 1 (rulesOf (arrays (rows .entry) (lengths .entry) (heads .entry)) m) (beside (now (s .entry)) (replicate (length (now (v .entry))) 0)) .numbers ⌝ }
+{
+    clear(v);
+    let mut i = 0;
+    while i < m {
+        let rule = books::rule_at(rows, lengths, heads, i);
+        i += 1;
+        rewriting::apply_rule(s, v, rule, i as u8);
+    }
+}
+
+// How long the first piece is: up to an end tag with it, or all.
+fn first_piece(s: &[u8], end: u8) -> usize
+    ensures { λ r. ⌜ FirstPiece (now (s .entry)) end r ⌝ }
+{
+    let mut i = 0;
+    while i < s.len() {
+        if s[i] == end {
+            return i + 1;
+        }
+        i += 1;
+    }
+    i
+}
+
+// The rules to the first piece, and how long it is.
+fn apply_first(
+    s: &mut [u8],
+    v: &mut [u8],
+    end: u8,
+    rows: &[[u8; PATTERN]; RULES],
+    lengths: &[usize; RULES],
+    heads: &[[u8; HEAD]; RULES],
+    m: usize,
+) -> usize
+    requires { ⌜ Usable m (arrays rows lengths heads) × Room (length (now s)) (now v) ⌝ }
+    ensures s { λ r. ⌜ Begun (piecewise end (applyAll (rulesOf (arrays (rows .entry) (lengths .entry) (heads .entry)) m))) (piecewise end (applyAll (rulesOf (arrays (rows .entry) (lengths .entry) (heads .entry)) m))) (now (s .entry)) (now (s .exit)) (now (s .exit)) r ⌝ }
+    ensures v { λ r. ⌜ (length (now (v .entry)) ≡ length (now (s .entry)) → Begun (piecewise end (numbersOf (rulesOf (arrays (rows .entry) (lengths .entry) (heads .entry)) m))) (piecewise end (numbersOf (rulesOf (arrays (rows .entry) (lengths .entry) (heads .entry)) m))) (now (s .entry)) (now (s .exit)) (now (v .exit)) r) ⌝ }
+    ensures some { λ r. ⌜ (0 < length (now (s .entry)) → 0 < r) ⌝ }
+{
+    let n = first_piece(s, end);
+    let noted = lesser(n, v.len());
+    apply_rules(&mut s[..n], &mut v[..noted], rows, lengths, heads, m);
+    n
+}
+
+// The rules to each piece.
+fn apply_pieces(
+    s: &mut [u8],
+    v: &mut [u8],
+    end: u8,
+    rows: &[[u8; PATTERN]; RULES],
+    lengths: &[usize; RULES],
+    heads: &[[u8; HEAD]; RULES],
+    m: usize,
+)
+    requires { ⌜ Usable m (arrays rows lengths heads) × Room (length (now s)) (now v) ⌝ }
+    ensures s { λ _. ⌜ now (s .exit) ≡ piecewise end (applyAll (rulesOf (arrays (rows .entry) (lengths .entry) (heads .entry)) m)) (now (s .entry)) ⌝ }
+    ensures v { λ _. ⌜ (length (now (v .entry)) ≡ length (now (s .entry)) → now (v .exit) ≡ piecewise end (numbersOf (rulesOf (arrays (rows .entry) (lengths .entry) (heads .entry)) m)) (now (s .entry))) ⌝ }
+{
+    let mut from = 0;
+    while from < s.len() {
+        let noted = lesser(from, v.len());
+        from += apply_first(
+            &mut s[from..],
+            &mut v[noted..],
+            end,
+            rows,
+            lengths,
+            heads,
+            m,
+        );
+    }
+}
+
+// The first m rules of the arrays to each piece of s, which holds tags: without an end tag it is one piece. Where v has as many places as s, it
+// gets the number of the last rule that rewrote each tag, 0 for none.
+pub fn apply_book(
+    s: &mut [u8],
+    v: &mut [u8],
+    end: u8,
+    rows: &[[u8; PATTERN]; RULES],
+    lengths: &[usize; RULES],
+    heads: &[[u8; HEAD]; RULES],
+    m: usize,
+)
+    requires { ⌜ Usable m (arrays rows lengths heads) × Room (length (now s)) (now v) ⌝ }
+    requires { ⌜ Below no-end (now s) ⌝ }
+    ensures s { λ _. ⌜ now (s .exit) ≡ piecewise end (applyAll (rulesOf (arrays (rows .entry) (lengths .entry) (heads .entry)) m)) (now (s .entry)) ⌝ }
+    ensures v { λ _. ⌜ (length (now (v .entry)) ≡ length (now (s .entry)) → now (v .exit) ≡ piecewise end (numbersOf (rulesOf (arrays (rows .entry) (lengths .entry) (heads .entry)) m)) (now (s .entry))) ⌝ }
+{
+    if end == NO_END {
+        apply_rules(s, v, rows, lengths, heads, m);
+    } else {
+        apply_pieces(s, v, end, rows, lengths, heads, m);
+    }
+}

@@ -1,0 +1,93 @@
+use lib.Seq.{take-length}
+use lib.ListN.{length}
+use mathlib.Core.Path.{sym}
+use Rattle.books.specs.Resume.{Whole}
+-- `tagger::run_into` meets its contract.
+use borrow.Author.Needs.{needs}
+use Prim.Native.Nat.{ℕ}
+use mathlib.Core.Path.{_≡_, subst, ap, _∙_}
+use mathlib.Core.List.{List}
+use Rattle.answers.specs.Outcome.{Outcome}
+use Rattle.answers.specs.Slice.{written}
+use Rattle.sentences.specs.Run.{Ran}
+use Rattle.sentences.proofs.Run.{ran-refused}
+use Rattle.cascades.specs.Rewrite.{behavior}
+use Rattle.books.specs.Arrays.{holding}
+use Rattle.books.proofs.Arrays.{fresh-shaped}
+use Rattle.tagger.specs.Rules.{reading, numbers}
+use Rattle.tagger.proofs.Run.{book-refused, book-runs, few-tags, applicable, numbers-kept}
+use Rattle.tagger.proofs.run_into.Statement.{statement}
+use Rattle.tagger.proofs.run_into.Tie as tie
+use Rattle.tagger.proofs.run_into.Reads as reads
+use Rattle.tagger.proofs.run_into.Lts as lts
+use Rattle.books.proofs.read_into.Reads as read-into-reads
+use Rattle.tagger.proofs.run_pieces.Reads as run-pieces-reads
+
+read-into-requires : tie.Need-read-into-requires
+read-into-requires c κs = fresh-shaped
+
+slice-aggregate-read-into : tie.Need-slice-aggregate-read-into
+slice-aggregate-read-into c = sym (ap length (take-length (c .before .before .before .before .before .args .book .now)))
+
+enum-known-got : tie.Need-enum-known-got
+enum-known-got c = search needs
+
+enum-known-got-2 : tie.Need-enum-known-got-2
+enum-known-got-2 c = search needs
+
+run-pieces-requires : tie.Need-run-pieces-requires
+run-pieces-requires c κs =
+    let st = c .before .before .before .before .before .before .before .before .before .before .before .before .before .before .before .before .before in
+    let r = c .before .before .before .before .before .before .before .before .read-into in
+    let a = holding (r .last .1 .0) (r .last .1 .1 .0) (r .last .1 .1 .1 .0) in
+    let w : Whole (st .args .book .now) a (r .result) = subst (λ (x : List ℕ). Whole x a (r .result)) (take-length (st .args .book .now)) (r .ensures) in
+    let book = c .before .before .before .before .before .before .got2 .given in (
+      applicable (st .args .book .now) a (r .result) w (book .0 .0) (book .0 .1 .0) (book .1),
+      (few-tags (st .args .book .now) a (r .result) w (book .0 .0) (book .0 .1 .0) (book .1), st .pre .0, st .pre .1),
+    )
+
+returns : tie.Need-returns
+returns c =
+    let s = c .before .before .before .before .before .before .before .before .before .before .before .before .args in
+    let r = c .before .before .before .read-into in
+    let a = holding (r .last .1 .0) (r .last .1 .1 .0) (r .last .1 .1 .1 .0) in
+    let w : Whole (s .book .now) a (r .result) = subst (λ (x : List ℕ). Whole x a (r .result)) (take-length (s .book .now)) (r .ensures) in (
+      ran-refused (reading behavior (s .book .now) (s .end) (s .sentence .now) (s .room)) (s .sentence .now) (s .out .now) (c .before .got .given .0 .0)
+          (book-refused (s .book .now) a (r .result) w behavior (s .end) (s .sentence .now) (s .room) _ (c .before .got .given .1)),
+      λ h. numbers-kept (reading numbers (s .book .now) (s .end) (s .sentence .now) (s .room)) (c .before .got .given .0 .0) (s .v .now)
+          (book-refused (s .book .now) a (r .result) w numbers (s .end) (s .sentence .now) (s .room) _ (c .before .got .given .1)),
+    )
+
+same-length : tie.Need-same-length
+same-length c = search needs
+
+same-length-2 : tie.Need-same-length-2
+same-length-2 c = search needs
+
+returns-2 : tie.Need-returns-2
+returns-2 c =
+    let s = c .before .before .before .before .before .before .before .before .before .before .before .before .before .before .before .before .before .before .before .before .before .before .args in
+    let r = c .before .before .before .before .before .before .before .before .before .before .before .before .before .read-into in
+    let a = holding (r .last .1 .0) (r .last .1 .1 .0) (r .last .1 .1 .1 .0) in
+    let w : Whole (s .book .now) a (r .result) = subst (λ (x : List ℕ). Whole x a (r .result)) (take-length (s .book .now)) (r .ensures) in
+    let book = c .before .before .before .before .before .before .before .before .before .before .before .got2 .given in
+    let u = c .before .before .before .before .run-pieces in (
+      subst (λ (o : Outcome (List ℕ)). Ran o (s .sentence .now) (s .out .now) (u .last .1 .0) (u .result))
+          (book-runs (s .book .now) a (r .result) w behavior (s .end) (s .sentence .now) (s .room) (book .0 .0) (book .0 .1 .0) (book .1)) (u .ensures .0),
+      λ h. u .ensures .1 h
+          ∙ ap (λ (o : Outcome (List ℕ)). written o (s .v .now)) (book-runs (s .book .now) a (r .result) w numbers (s .end) (s .sentence .now) (s .room) (book .0 .0) (book .0 .1 .0) (book .1)),
+    )
+
+pub run-into-spec : {M : Type 1} → statement M
+run-into-spec =
+    tie.close
+    (tie.spec
+    slice-aggregate-read-into
+    read-into-requires
+    enum-known-got
+    enum-known-got-2
+    run-pieces-requires
+    returns
+    same-length
+    same-length-2
+    returns-2)
