@@ -6,23 +6,24 @@
    the result of the one before. A table is a sequential transducer: it starts in state 0, reads the tags once from left to right, puts
    out zero or more tags at each, and at the end the final word of its state. A loaded table is a table as numbers, made for running.
 
-   Which call is for what: nedzsuka_run_book for a book that is still edited; nedzsuka_run_table for a table that is used once;
-   nedzsuka_load_table, once, and then nedzsuka_run_loaded for a table that is run on every sentence; nedzsuka_open, nedzsuka_give,
-   nedzsuka_look and nedzsuka_close for a sentence that is still being typed, through struct nedzsuka_sentence below.
+   Which call is for what: nedzsuka_run_book for a book that is still edited; nedzsuka_run_book_rules for whoever corrects it and looks for
+   the rule behind a changed tag; nedzsuka_run_table for a table that is used once; nedzsuka_load_table, once, and then
+   nedzsuka_run_loaded for a table that is run on every sentence; nedzsuka_open, nedzsuka_give, nedzsuka_look and nedzsuka_close for a
+   sentence that is still being typed, through struct nedzsuka_sentence below.
 
-   A slice that holds several sentences, a paragraph, is for nedzsuka_compile_ending and nedzsuka_run_book_ending: they take an end tag,
-   the number of the full stop. The slice is cut after each end tag, the rules are applied to each piece by itself, and the pieces are
-   joined. A table that was compiled with an end tag does the same; its runs are those of any table. An end tag of 255 is none: the
-   slice is one sentence, as for nedzsuka_compile and nedzsuka_run_book.
+   A slice that holds several sentences, a paragraph, is for nedzsuka_compile_ending, nedzsuka_run_book_ending and
+   nedzsuka_run_book_rules: they take an end tag, the number of the full stop. The slice is cut after each end tag, the rules are applied
+   to each piece by itself, and the pieces are joined. A table that was compiled with an end tag does the same; its runs are those of any
+   table. An end tag of 255 is none: the slice is one sentence, as for nedzsuka_compile and nedzsuka_run_book.
 
    What holds of every call
    - For any bytes, numbers and slices it ends, with a result or with a numbered refusal, and which one is fixed by what it was given.
    - The answer is one number: the result's length or count times 256, plus the refusal, 0 for none. On a refusal the upper part is 0;
      with 10 it is the rule's number, and with a refusal of nedzsuka_read_book the byte. nedzsuka_value and nedzsuka_refusal take it
      apart, and nedzsuka_in_words puts a refusal into words.
-   - A refused call writes nothing into the output slice, and leaves the three numbers of a typed sentence as they were. Otherwise the
+   - A refused call writes nothing into an output slice, and leaves the three numbers of a typed sentence as they were. Otherwise the
      result stands at the front of the output slice, and what lies beyond the result stays as it was. The output slice of
-     nedzsuka_load_table is the loaded one.
+     nedzsuka_load_table is the loaded one; nedzsuka_run_book_rules has two, and the rules' numbers stand at the front of the second.
    - The other slices are only read, the work slice of compile excepted.
    - It allocates nothing and keeps nothing from one call to the next: several threads may call at once, each with output and work
      slices of its own, and typed sentences of its own. One table, loaded or not, serves several threads, since running it only reads it.
@@ -34,7 +35,7 @@
    What is asked of the caller
    - A pointer reaches as many entries as the length beside it says. It may be null only where that length is 0.
    - The work pointer is aligned for uint16_t, the loaded pointer for uint32_t.
-   - The output slice and the work slice overlap no other slice of the same call. Slices that are only read may overlap one another.
+   - Neither an output slice nor the work slice overlaps another slice of the same call. Slices that are only read may overlap one another.
    - The pointers to the numbers of a typed sentence are not null, aligned for uint64_t, and point to three different numbers, which
      overlap no slice of the same call.
    - While a call reads a slice, nothing writes to it. Between calls a host may write what it likes, also over a loaded table.
@@ -55,8 +56,8 @@
 #include <stdint.h>
 
 /* The version, in words and as 10,000 * major + 100 * minor + patch. */
-#define NEDZSUKA_VERSION "0.4.0"
-#define NEDZSUKA_VERSION_NUMBER 400
+#define NEDZSUKA_VERSION "0.5.0"
+#define NEDZSUKA_VERSION_NUMBER 500
 
 #ifdef __cplusplus
 extern "C" {
@@ -66,7 +67,7 @@ extern "C" {
 enum nedzsuka_bound {
     NEDZSUKA_LEAST_TAGS = 2,            /* K is at least this, */
     NEDZSUKA_MOST_TAGS = 48,            /* and at most this */
-    NEDZSUKA_MOST_RULES = 16,           /* rules in a book */
+    NEDZSUKA_MOST_RULES = 16,           /* rules in a book, and the greatest number of a rule */
     NEDZSUKA_LONGEST_PATTERN = 6,       /* tags in a pattern; at least one */
     NEDZSUKA_MOST_STATES = 256,         /* states of a table, and the greatest ceiling; at least one */
     NEDZSUKA_MOST_HELD = 80,            /* tags that a state holds, and that a look or a close puts out */
@@ -92,7 +93,7 @@ enum nedzsuka_refusal_number {
     NEDZSUKA_BAD_CEILING = 8,        /* compile: a ceiling outside 1 to 256 */
     NEDZSUKA_SHORT_WORK = 9,         /* compile: fewer work entries than nedzsuka_work_entries says */
     NEDZSUKA_TOO_MANY_STATES = 10,   /* compile: the first i rules need more states than the ceiling; i is the answer's value */
-    NEDZSUKA_SHORT_OUTPUT = 11,      /* every call with an output slice: it is shorter than the result */
+    NEDZSUKA_SHORT_OUTPUT = 11,      /* every call with an output slice: it, or one of two, is shorter than the result */
     NEDZSUKA_BAD_TABLE = 12,         /* table: not well formed; loaded table: its numbers make no result of the sentence */
     NEDZSUKA_LONG_SENTENCE = 13,     /* sentence: longer than 65,535 tags; give: 65,535 or more have been given */
     NEDZSUKA_BAD_END = 14,           /* calls with an end tag: the book cannot be used with it */
@@ -153,6 +154,24 @@ uint64_t nedzsuka_run_book(const uint8_t *book, size_t book_len, const uint8_t *
    Refusals, in this order: 1 to 7, 14, 13, 4, 11, as for nedzsuka_run_book and nedzsuka_compile_ending. */
 uint64_t nedzsuka_run_book_ending(const uint8_t *book, size_t book_len, uint8_t end, const uint8_t *sentence, size_t sentence_len,
                                   uint8_t *out, size_t out_len);
+
+/* Runs a book as nedzsuka_run_book_ending does, and tells for each place which rule rewrote it last. The answer, and the result at the
+   front of out, are those of nedzsuka_run_book_ending. The front of rules gets one byte for each tag of the sentence: the number of the
+   last rule that rewrote this place, or 0 where none did. Rules are numbered from 1 in the order of the book, whether they fire or not, so
+   that a number is 1 to NEDZSUKA_MOST_RULES.
+
+   A rule writes its number only at the place p of its match, where it puts its tag, and a rule that fires everywhere at that of each
+   match. With an end tag the numbers are found piece by piece, as the tags are. Where several rules rewrote a place, the last one's number
+   stands. A place that was rewritten and rewritten back keeps that number, though its tag does not count as changed. So a place with the
+   number 0 has the sentence's tag, and a place whose tag differs from the sentence's has a number.
+
+   What lies beyond sentence_len stays as it was in both slices, and on every refusal both keep all their bytes. A table carries no rule
+   numbers, so there is no such call for tables.
+
+   Refusals, in this order: 1 to 7, 14, 13, 4, as for nedzsuka_run_book_ending, and
+   - 11: out_len or rules_len is below sentence_len. */
+uint64_t nedzsuka_run_book_rules(const uint8_t *book, size_t book_len, uint8_t end, const uint8_t *sentence, size_t sentence_len,
+                                 uint8_t *out, size_t out_len, uint8_t *rules, size_t rules_len);
 
 /* Reads a book and answers K * 256 + the number of its rules.
 
@@ -308,7 +327,7 @@ static inline const char *nedzsuka_in_words(unsigned refusal)
         "the ceiling is outside 1 to 256 states",
         "the work slice is too short",
         "the rules up to this one need more states than the ceiling in every machine",
-        "the output slice is too short",
+        "an output slice is too short",
         "the table is not well formed, or the loaded one makes no result of the sentence",
         "the sentence is longer than 65,535 tags",
         "the end tag is no tag of the book, or stands in a pattern before its last place, or a rule changes or makes it",
