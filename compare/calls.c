@@ -8,35 +8,36 @@
 #include <string.h>
 #include <unistd.h>
 
+#include "generate.h"
 #include "nedzsuka.h"
 #include "reference.h"
 #include "slices.h"
 
-enum { REFUSALS = 17, SIZES = 9, MOST_SHOWN = 4096, SECONDS_A_CALL = 100 };
+enum { REFUSALS = 17, SIZES = 9, MOST_SHOWN = 4096, SECONDS_A_CALL = 100, RULES_ROOM = 2 * LONGEST_TRIED_SENTENCE };
 enum { STATE, GIVEN, CLOSED, NUMBERS };
 
 static const char *const call_name[CALLS] = {
-    "nedzsuka_compile",   "nedzsuka_compile_ending", "nedzsuka_run_book",   "nedzsuka_run_book_ending", "nedzsuka_run_table",
-    "nedzsuka_read_book", "nedzsuka_read_table",     "nedzsuka_load_table", "nedzsuka_run_loaded",      "nedzsuka_open",
-    "nedzsuka_give",      "nedzsuka_look",           "nedzsuka_close"};
+    "nedzsuka_compile",   "nedzsuka_compile_ending", "nedzsuka_run_book",   "nedzsuka_run_book_ending", "nedzsuka_run_book_rules",
+    "nedzsuka_run_table", "nedzsuka_read_book",      "nedzsuka_read_table", "nedzsuka_load_table",      "nedzsuka_run_loaded",
+    "nedzsuka_open",      "nedzsuka_give",           "nedzsuka_look",       "nedzsuka_close"};
 
 static struct {
     enum call call;
     const uint8_t *bytes, *sentence; /* bytes: of the book, the table or the loaded numbers */
-    size_t length, sentence_len, work_len, out_len;
+    size_t length, sentence_len, work_len, out_len, rules_len;
     uint64_t ceiling, answer, expected;
     uint8_t end, tag;
     uint64_t number[NUMBERS]; /* of the typed sentence, before the call */
 } now;
 
-static struct slice first_slice, sentence_slice, out_slice, work_slice, loaded_slice, number_slice[NUMBERS];
-static uint8_t *expected_out;
+static struct slice first_slice, sentence_slice, out_slice, rules_slice, work_slice, loaded_slice, number_slice[NUMBERS];
+static uint8_t *expected_out, *expected_rules;
 static uint16_t *expected_work;
 static uint32_t *expected_loaded;
 static uint64_t seed_used, calls_made, refusals[CALLS][REFUSALS], ten_at[257];
-static uint64_t tables_by_size[SIZES], most_held, longest_table;
+static uint64_t tables_by_size[SIZES], most_held, longest_table, places_by_rule[MOST_RULES + 1], rewritten_back;
 
-const uint8_t *last_out;
+const uint8_t *last_out, *last_rules;
 const uint32_t *last_loaded;
 
 static void print_hex(const char *name, const uint8_t *bytes, size_t length)
@@ -50,6 +51,11 @@ static void print_hex(const char *name, const uint8_t *bytes, size_t length)
 static int is_typing(enum call call)
 {
     return call == OPEN || call == GIVE || call == LOOK || call == CLOSE;
+}
+
+static int is_run(enum call call)
+{
+    return call == RUN_BOOK || call == RUN_BOOK_ENDING || call == RUN_BOOK_RULES || call == RUN_TABLE || call == RUN_LOADED;
 }
 
 static void print_input(void)
@@ -74,12 +80,14 @@ void fail(const char *what)
     fprintf(stderr, "answer %" PRIu64 " with refusal %" PRIu64 ", expected %" PRIu64 " with refusal %" PRIu64 "\n", now.answer >> 8,
             now.answer & 255, now.expected >> 8, now.expected & 255);
     print_input();
-    if (now.call == COMPILE_ENDING || now.call == RUN_BOOK_ENDING)
+    if (now.call == COMPILE_ENDING || now.call == RUN_BOOK_ENDING || now.call == RUN_BOOK_RULES)
         fprintf(stderr, "end tag %d\n", now.end);
     if (now.call == COMPILE || now.call == COMPILE_ENDING)
         fprintf(stderr, "ceiling %" PRIu64 ", work slice of %zu entries, ", now.ceiling, now.work_len);
-    else if (now.call == RUN_BOOK || now.call == RUN_BOOK_ENDING || now.call == RUN_TABLE || now.call == RUN_LOADED)
+    else if (is_run(now.call))
         print_hex("sentence", now.sentence, now.sentence_len);
+    if (now.call == RUN_BOOK_RULES)
+        fprintf(stderr, "rules slice of %zu bytes, ", now.rules_len);
     fprintf(stderr, "output slice of %zu %s\n", now.out_len, now.call == LOAD_TABLE ? "numbers" : "bytes");
     _exit(1);
 }
@@ -109,11 +117,13 @@ void start_calls(uint64_t seed)
     first_slice = make_slice(TABLE_ROOM * sizeof(uint32_t));
     sentence_slice = make_slice(LONGEST_TRIED_SENTENCE);
     out_slice = make_slice(TABLE_ROOM);
+    rules_slice = make_slice(RULES_ROOM);
     work_slice = make_slice((MOST_WORK + 1000) * sizeof(uint16_t));
     loaded_slice = make_slice(TABLE_ROOM * sizeof(uint32_t));
     for (int i = 0; i < NUMBERS; i++)
         number_slice[i] = make_slice(sizeof(uint64_t));
     expected_out = room_for(TABLE_ROOM);
+    expected_rules = room_for(RULES_ROOM);
     expected_work = room_for((MOST_WORK + 1000) * sizeof(uint16_t));
     expected_loaded = room_for(TABLE_ROOM * sizeof(uint32_t));
     for (size_t i = 0; i < sizeof caught / sizeof *caught; i++)
@@ -266,13 +276,19 @@ static void run_both(void)
     const uint8_t *bytes = first_slice.at, *sentence = sentence_slice.at;
     size_t length = now.length, count = now.sentence_len, room = now.out_len;
 
-    if (now.call == RUN_BOOK_ENDING)
+    if (now.call == RUN_BOOK_RULES)
+        now.expected = reference_run_book_rules(now.bytes, length, now.end, now.sentence, count, expected_out, room, expected_rules,
+                                                now.rules_len);
+    else if (now.call == RUN_BOOK_ENDING)
         now.expected = reference_run_book_ending(now.bytes, length, now.end, now.sentence, count, expected_out, room);
     else
         now.expected = (now.call == RUN_BOOK ? reference_run_book : reference_run_table)(now.bytes, length, now.sentence, count,
                                                                                          expected_out, room);
     alarm(SECONDS_A_CALL);
-    if (now.call == RUN_BOOK_ENDING)
+    if (now.call == RUN_BOOK_RULES)
+        now.answer = nedzsuka_run_book_rules(bytes, length, now.end, sentence, count, out_slice.at, room, rules_slice.at,
+                                             now.rules_len);
+    else if (now.call == RUN_BOOK_ENDING)
         now.answer = nedzsuka_run_book_ending(bytes, length, now.end, sentence, count, out_slice.at, room);
     else
         now.answer = (now.call == RUN_BOOK ? nedzsuka_run_book : nedzsuka_run_table)(bytes, length, sentence, count, out_slice.at,
@@ -304,6 +320,29 @@ uint64_t compare_run_ending(const uint8_t *book, size_t book_len, unsigned end, 
 {
     now.end = (uint8_t)end;
     return compare_run(RUN_BOOK_ENDING, book, book_len, sentence, sentence_len, out_len);
+}
+
+static void count_numbers(void)
+{
+    if ((now.answer & 255) != 0)
+        return;
+    for (size_t i = 0; i < now.sentence_len; i++) {
+        places_by_rule[last_rules[i]]++;
+        rewritten_back += last_rules[i] > 0 && last_out[i] == now.sentence[i];
+    }
+}
+
+uint64_t compare_run_rules(const uint8_t *book, size_t book_len, unsigned end, const uint8_t *sentence, size_t sentence_len,
+                           size_t out_len, size_t rules_len)
+{
+    now.end = (uint8_t)end;
+    now.rules_len = rules_len;
+    lend_random(&rules_slice, rules_len, expected_rules);
+    compare_run(RUN_BOOK_RULES, book, book_len, sentence, sentence_len, out_len);
+    last_rules = rules_slice.at;
+    check_output(&rules_slice, expected_rules, "another rules slice than the reference's");
+    count_numbers();
+    return now.answer;
 }
 
 uint64_t compare_read(enum call call, const uint8_t *bytes, size_t length)
@@ -448,6 +487,10 @@ void print_counts(size_t tried_out, size_t alike)
     printf("10 at %d of 256 ceilings; tables of 1, 2-3, 4-7, .. 128-255, 256 states:", ceilings);
     for (int size = 0; size < SIZES; size++)
         printf(" %" PRIu64, tables_by_size[size]);
-    printf(", holding up to %" PRIu64 ", of up to %" PRIu64 " bytes; %zu tables found by trying words; %zu pairs that do the same\n",
-           most_held, longest_table, tried_out, alike);
+    printf(", holding up to %" PRIu64 ", of up to %" PRIu64 " bytes; places with the rule numbers 0, 1, .. 16:", most_held,
+           longest_table);
+    for (int number = 0; number <= MOST_RULES; number++)
+        printf(" %" PRIu64, places_by_rule[number]);
+    printf(", %" PRIu64 " of them rewritten back; %zu tables found by trying words; %zu pairs that do the same\n", rewritten_back,
+           tried_out, alike);
 }

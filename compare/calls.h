@@ -12,6 +12,7 @@ enum call {
     COMPILE_ENDING,
     RUN_BOOK,
     RUN_BOOK_ENDING,
+    RUN_BOOK_RULES,
     RUN_TABLE,
     READ_BOOK,
     READ_TABLE,
@@ -23,10 +24,10 @@ enum call {
     CLOSE,
     CALLS
 };
-enum { LONGEST_TRIED_SENTENCE = 70000, LONGEST_TABLE = 2061157, TABLE_ROOM = 2400000, MOST_WORK = 16 * 256 * 49 * 88, NO_END = 255 };
+enum { LONGEST_TABLE = 2061157, TABLE_ROOM = 2400000, MOST_WORK = 16 * 256 * 49 * 88 };
 
-/* The output slice of the last call, as the library left it, and that of the last load. */
-extern const uint8_t *last_out;
+/* The output slice of the last call, as the library left it, that of the last load, and the last one for rule numbers. */
+extern const uint8_t *last_out, *last_rules;
 extern const uint32_t *last_loaded;
 
 void start_calls(uint64_t seed);
@@ -40,6 +41,8 @@ uint64_t compare_run(enum call call, const uint8_t *bytes, size_t length, const 
                      size_t out_len);
 uint64_t compare_run_ending(const uint8_t *book, size_t book_len, unsigned end, const uint8_t *sentence, size_t sentence_len,
                             size_t out_len);
+uint64_t compare_run_rules(const uint8_t *book, size_t book_len, unsigned end, const uint8_t *sentence, size_t sentence_len,
+                           size_t out_len, size_t rules_len);
 uint64_t compare_read(enum call call, const uint8_t *bytes, size_t length);
 uint64_t compare_load(const uint8_t *table, size_t table_len, size_t loaded_len);
 uint64_t compare_run_loaded(const uint32_t *loaded, size_t loaded_len, const uint8_t *sentence, size_t sentence_len,

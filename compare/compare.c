@@ -12,6 +12,7 @@
 #include "loaded.h"
 #include "nedzsuka.h"
 #include "places.h"
+#include "rules.h"
 #include "slices.h"
 #include "typing.h"
 
@@ -135,6 +136,8 @@ static void compare_damaged_bytes(enum call call, const uint8_t *bytes, size_t l
     if (call == RUN_TABLE)
         compare_any_typed(bytes, length, 1);
     compare_run(call, bytes, length, tags, sizeof tags, sizeof tags);
+    if (call == RUN_BOOK)
+        compare_run_rules(bytes, length, NO_END, tags, sizeof tags, sizeof tags, sizeof tags);
     compare_read(call == RUN_BOOK ? READ_BOOK : READ_TABLE, bytes, length);
 }
 
@@ -204,8 +207,7 @@ static void compare_runs(const struct made_book *made, const uint8_t *book, size
 
 static void compare_long_runs(const struct made_book *made, const uint8_t *book, size_t book_len, size_t table_len)
 {
-    static const size_t lengths[] = {65534, 65535, 65536, 65537, LONGEST_TRIED_SENTENCE};
-    size_t length = lengths[random_below(sizeof lengths / sizeof *lengths)];
+    size_t length = some_great_length();
 
     if (one_in(2))
         random_sentence(sentence, length, book[1]);
@@ -505,24 +507,6 @@ static void compare_tried(const struct made_book *book)
     tried_out += refusal_of(answer) == 0;
 }
 
-static size_t small_rules(struct made_rule *rules)
-{
-    size_t count = 0;
-
-    for (uint8_t length = 1; length <= 3; length++)
-        for (unsigned pattern = 0; pattern < 1u << length; pattern++)
-            for (uint8_t place = 0; place < length; place++) {
-                struct made_rule rule = {{0}, length, place, 0, 0};
-                for (uint8_t i = 0; i < length; i++)
-                    rule.pattern[i] = pattern >> i & 1;
-                rule.new_tag = 1 - rule.pattern[place];
-                rules[count++] = rule;
-                rule.everywhere = 1;
-                rules[count++] = rule;
-            }
-    return count;
-}
-
 /* What a book makes of every sentence of at most eleven tags out of two, as one number. Ten do not tell all small books apart. */
 static uint64_t behavior_mark(const struct made_book *book)
 {
@@ -555,7 +539,7 @@ static void compare_small_pairs(const struct small_book *books, size_t count)
                              memcmp(books[i].table, books[j].table, books[i].table_len) == 0;
             if (same_bytes != (books[i].behavior == books[j].behavior))
                 fail(same_bytes ? "two books that differ get the same bytes" : "two books that do the same get different bytes");
-            alike += same_bytes;
+            alike += (size_t)same_bytes;
         }
 }
 
@@ -564,7 +548,7 @@ static void compare_small_books(void)
 {
     static struct small_book books[SMALL_BOOKS];
     struct made_rule rules[SMALL_RULES];
-    size_t all = small_rules(rules), count = 0;
+    size_t all = all_rules(rules, 3), count = 0;
 
     for (size_t i = 0; i <= all; i++)
         for (size_t j = 0; j <= (i == 0 ? 0 : all); j++, count++) {
@@ -643,6 +627,7 @@ static void compare_chosen(void)
     compare_one_rules();
     compare_full_sentences();
     compare_places();
+    compare_two_rules();
     compare_ending_cases();
     compare_every_end();
     alike += compare_ending_pairs();
@@ -658,6 +643,7 @@ static void compare_drawn(void)
     compare_tried_books(2500);
     tried_out += compare_ending_tried(600);
     compare_ending_books(6000);
+    compare_rules_books(9000);
     compare_bytes_of_books(30000);
     compare_damaged_books(60000);
     compare_lengthened_books(6000);

@@ -7,6 +7,7 @@
 #include "everywhere.h"
 #include "expect.h"
 #include "generate.h"
+#include "rules.h"
 #include "slices.h"
 
 enum { PAIR_TAGS = 3, PAIR_RULES = 84, PAIR_BOOKS = 4 * (1 + PAIR_RULES + PAIR_RULES * PAIR_RULES), PAIR_LENGTH = 8 };
@@ -62,7 +63,7 @@ void compare_every_end(void)
         for (unsigned end = 0; end < 256; end++) {
             const uint8_t *book = (const uint8_t *)books[i];
             uint64_t answer = compare_compile_ending(book, sizeof noun, end, 3, work_entries(3, 4, 1), 400);
-            if ((answer % 256 == 14) != (compare_run_ending(book, sizeof noun, end, tags, sizeof tags, sizeof tags) == 14))
+            if ((answer % 256 == 14) != (compare_numbered(book, sizeof noun, end, tags, sizeof tags, sizeof tags, sizeof tags) == 14))
                 fail("14 from one of compile and run alone");
         }
 }
@@ -163,52 +164,6 @@ size_t compare_ending_pairs(void)
 
 /* ---- Random books ---- */
 
-static void spare_tag(uint8_t *tag, unsigned end, size_t tags)
-{
-    while (*tag == end)
-        *tag = (uint8_t)random_below(tags);
-}
-
-/* The end tag at the last place of a pattern at most, where it is not the one that changes. */
-static void spare_end(struct made_rule *rule, unsigned end, size_t tags)
-{
-    for (size_t i = 0; i + 1 < rule->length; i++)
-        spare_tag(&rule->pattern[i], end, tags);
-    if (rule->length > 1 && one_in(3))
-        rule->pattern[rule->length - 1] = (uint8_t)end;
-    spare_tag(&rule->pattern[rule->place], end, tags);
-    spare_tag(&rule->new_tag, end, tags);
-    while (rule->new_tag == rule->pattern[rule->place] || rule->new_tag == end)
-        rule->new_tag = (uint8_t)random_below(tags);
-}
-
-/* An end tag that the book, of at least three tags, can be used with; now and then 255, or one that may give 14. The rules are changed so
-   that it fits. */
-static unsigned some_end(struct made_book *book)
-{
-    unsigned end = one_in(2) ? book->tags - 1u : (unsigned)random_below(book->tags);
-
-    if (one_in(12))
-        return NO_END;
-    if (one_in(12))
-        return one_in(2) ? end : (unsigned)random_below(256);
-    for (size_t i = 0; i < book->rules; i++)
-        spare_end(&book->rule[i], end, book->tags);
-    return end;
-}
-
-/* A paragraph: the end tag stands in it often. */
-static void some_paragraph(const struct made_book *book, size_t length, unsigned end)
-{
-    sentence_for(sentence, length, book);
-    if (end >= book->tags || one_in(8))
-        return;
-    for (size_t i = random_below(6); i < length; i += 1 + random_below(12))
-        sentence[i] = (uint8_t)end;
-    if (length > 0 && one_in(3))
-        sentence[length - 1] = (uint8_t)end;
-}
-
 static size_t some_work(size_t needed)
 {
     return one_in(4) ? needed - 1 - random_below(2) : needed + (one_in(4) ? random_below(900) : 0);
@@ -252,7 +207,7 @@ static void compare_ending_book(struct made_book *book)
     }
     for (int times = 0; times < 6; times++) {
         size_t count = some_length();
-        some_paragraph(book, count, end);
+        paragraph_for(sentence, count, book, end);
         if (answer % 256 == 0)
             compare_with_table(bytes, length, end, table, answer / 256, sentence, count);
         compare_run_ending(bytes, length, end, sentence, count, some_room(count));
@@ -268,27 +223,18 @@ static void compare_damaged_ending(struct made_book *book)
     size_t length = damage(bytes, write_book(book, bytes)), count = random_below(20);
 
     compare_compile_ending(bytes, length, end, random_below(5), work_entries(4, 48, 3), 600);
-    some_paragraph(book, count, end);
+    paragraph_for(sentence, count, book, end);
     compare_run_ending(bytes, length, end, sentence, count, some_room(count));
 }
 
-/* The longest sentences, of one piece, of two and of many. */
-static void compare_long_paragraphs(struct made_book *book)
+static void compare_long_paragraph(struct made_book *book)
 {
-    static const size_t lengths[] = {65534, 65535, 65536, LONGEST_TRIED_SENTENCE};
-    size_t length = lengths[random_below(sizeof lengths / sizeof *lengths)], count;
     uint8_t bytes[LONGEST_BOOK];
     unsigned end = some_end(book);
+    size_t length = write_book(book, bytes), count = some_great_length();
 
-    count = write_book(book, bytes);
-    if (one_in(2))
-        random_sentence(sentence, length, book->tags);
-    else
-        matching_sentence(sentence, length, book);
-    for (size_t i = 0; i < length && one_in(2); i++)
-        if (sentence[i] == end)
-            sentence[i] = (uint8_t)(end == 0);
-    compare_run_ending(bytes, count, end, sentence, length, length - random_below(2));
+    long_paragraph(sentence, count, book, end);
+    compare_run_ending(bytes, length, end, sentence, count, count - random_below(2));
 }
 
 void compare_ending_books(size_t times)
@@ -299,7 +245,7 @@ void compare_ending_books(size_t times)
         for (int i = 0; i < 4; i++)
             compare_damaged_ending(&damaged);
         if (one_in(40))
-            compare_long_paragraphs(&book);
+            compare_long_paragraph(&book);
     }
 }
 

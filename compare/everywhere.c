@@ -8,7 +8,7 @@
 #include "loaded.h"
 #include "slices.h"
 
-enum { LONGEST_SENTENCE = 65535, ROW = 40, ONE_RULE_BYTES = 1200 };
+enum { LONGEST_SENTENCE = 65535, ROW = 40, ONE_RULE_BYTES = 1200, ALL_RULES = 1284 };
 
 static uint8_t sentence[LONGEST_SENTENCE], table[ONE_RULE_BYTES];
 
@@ -142,16 +142,10 @@ static void compare_uses(struct made_rule rule)
 
 void compare_one_rules(void)
 {
-    for (uint8_t length = 1; length <= LONGEST_PATTERN; length++)
-        for (unsigned pattern = 0; pattern < 1u << length; pattern++)
-            for (uint8_t place = 0; place < length; place++)
-                for (uint8_t everywhere = 0; everywhere < 2; everywhere++) {
-                    struct made_rule rule = {{0}, length, place, 0, everywhere};
-                    for (uint8_t i = 0; i < length; i++)
-                        rule.pattern[i] = pattern >> i & 1;
-                    rule.new_tag = 1 - rule.pattern[place];
-                    compare_uses(rule);
-                }
+    static struct made_rule rules[ALL_RULES];
+
+    for (size_t i = 0, all = all_rules(rules, LONGEST_PATTERN); i < all; i++)
+        compare_uses(rules[i]);
 }
 
 /* ---- The longest sentences ---- */

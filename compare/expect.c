@@ -3,6 +3,7 @@
 #include <string.h>
 
 #include "calls.h"
+#include "generate.h"
 
 static uint8_t table[TABLE_ROOM], result[LONGEST_TRIED_SENTENCE];
 

@@ -24,6 +24,24 @@ struct made_rule random_rule(size_t tags, size_t used, size_t longest)
     return rule;
 }
 
+size_t all_rules(struct made_rule *rules, size_t longest)
+{
+    size_t count = 0;
+
+    for (uint8_t length = 1; length <= longest; length++)
+        for (unsigned pattern = 0; pattern < 1u << length; pattern++)
+            for (uint8_t place = 0; place < length; place++) {
+                struct made_rule rule = {{0}, length, place, 0, 0};
+                for (uint8_t i = 0; i < length; i++)
+                    rule.pattern[i] = pattern >> i & 1;
+                rule.new_tag = 1 - rule.pattern[place];
+                rules[count++] = rule;
+                rule.everywhere = 1;
+                rules[count++] = rule;
+            }
+    return count;
+}
+
 /* A rule that has to do with one before it: it undoes it, or changes its pattern otherwise. */
 static struct made_rule related_rule(const struct made_rule *before, size_t used)
 {
@@ -97,6 +115,38 @@ struct made_book holding_book(size_t tags, size_t rules, size_t longest)
     }
     draw_kinds(&book);
     return book;
+}
+
+static void spare_tag(uint8_t *tag, unsigned end, size_t tags)
+{
+    while (*tag == end)
+        *tag = (uint8_t)random_below(tags);
+}
+
+/* The end tag at the last place of a pattern at most, where it is not the one that changes. */
+static void spare_end(struct made_rule *rule, unsigned end, size_t tags)
+{
+    for (size_t i = 0; i + 1 < rule->length; i++)
+        spare_tag(&rule->pattern[i], end, tags);
+    if (rule->length > 1 && one_in(3))
+        rule->pattern[rule->length - 1] = (uint8_t)end;
+    spare_tag(&rule->pattern[rule->place], end, tags);
+    spare_tag(&rule->new_tag, end, tags);
+    while (rule->new_tag == rule->pattern[rule->place] || rule->new_tag == end)
+        rule->new_tag = (uint8_t)random_below(tags);
+}
+
+unsigned some_end(struct made_book *book)
+{
+    unsigned end = one_in(2) ? book->tags - 1u : (unsigned)random_below(book->tags);
+
+    if (one_in(12))
+        return NO_END;
+    if (one_in(12))
+        return one_in(2) ? end : (unsigned)random_below(256);
+    for (size_t i = 0; i < book->rules; i++)
+        spare_end(&book->rule[i], end, book->tags);
+    return end;
 }
 
 size_t write_book(const struct made_book *book, uint8_t *bytes)
@@ -246,7 +296,7 @@ void matching_sentence(uint8_t *sentence, size_t length, const struct made_book 
         const struct made_rule *rule = &book->rule[random_below(book->rules)];
         for (size_t t = one_in(3) ? random_below(rule->length) : 0; t < rule->length && i < length; t++)
             sentence[i++] = rule->pattern[t];
-        i += one_in(5);
+        i += one_in(5) ? 1 : 0;
     }
 }
 
@@ -258,13 +308,44 @@ void sentence_for(uint8_t *sentence, size_t length, const struct made_book *book
         some_sentence(sentence, length, book->tags);
 }
 
+void paragraph_for(uint8_t *sentence, size_t length, const struct made_book *book, unsigned end)
+{
+    sentence_for(sentence, length, book);
+    if (end >= book->tags || one_in(8))
+        return;
+    for (size_t i = random_below(6); i < length; i += 1 + random_below(12))
+        sentence[i] = (uint8_t)end;
+    if (length > 0 && one_in(3))
+        sentence[length - 1] = (uint8_t)end;
+}
+
+void long_paragraph(uint8_t *sentence, size_t length, const struct made_book *book, unsigned end)
+{
+    int one_piece = one_in(2);
+
+    if (one_in(2))
+        random_sentence(sentence, length, book->tags);
+    else
+        matching_sentence(sentence, length, book);
+    for (size_t i = 0; i < length && one_piece; i++)
+        if (sentence[i] == end)
+            sentence[i] = (uint8_t)(end == 0);
+}
+
+size_t some_great_length(void)
+{
+    static const size_t lengths[] = {65534, 65535, 65536, 65537, LONGEST_TRIED_SENTENCE};
+
+    return lengths[random_below(sizeof lengths / sizeof *lengths)];
+}
+
 size_t some_length(void)
 {
     switch (random_below(8)) {
     case 0:
         return random_below(3);
     case 1:
-        return random_below(120);
+        return random_below(SOME_LENGTH);
     default:
         return random_below(24);
     }

@@ -293,7 +293,7 @@ static void fill_numbers(uint32_t *numbers, size_t count, size_t tags)
         if (one_in(odd))
             numbers[at] = some_number(tags, count);
         else if (in_row >= 2 && in_row % 2 == 0)
-            numbers[at] = (uint32_t)row_place(tags, random_below(count / (2 * tags + 2) + one_in(9)));
+            numbers[at] = (uint32_t)row_place(tags, random_below(count / (2 * tags + 2) + (one_in(9) ? 1 : 0)));
         else
             numbers[at] = in_row < 2 ? 0 : short_word(1, tags);
     }

@@ -6,6 +6,7 @@
 #include "generate.h"
 
 enum { LONGEST = 200, NEW_TAG = 2, END_TAG = 3, PLACE_BYTE = 3, KINDS = 2, PATTERNS = 11, PIECES = 3, SENTENCE_ROOM = 400 };
+enum { NUMBERED = 17 }; /* one run in so many, an odd number, is also made with rule numbers */
 /* Where in a piece the pattern stands. */
 enum way { IN_FRONT, AT_THE_BACK, BETWEEN, IN_FRONT_AND_AT_THE_BACK, NOWHERE, WAYS };
 
@@ -68,9 +69,19 @@ static size_t rewrite_sentence(const struct placed_book *book, size_t length)
     return changed;
 }
 
+/* The run with rule numbers over the same sentence: 1 where the tag changes, and nowhere else. */
+static void number_placed(const struct placed_book *book, size_t length)
+{
+    compare_run_rules(book->bytes, book->length, book->end, sentence, length, length, length);
+    for (size_t i = 0; i < length; i++)
+        if (last_rules[i] != (wanted[i] != sentence[i]))
+            fail("another number than going place by place gives");
+}
+
 /* One run over the sentence, with the new tag at the pattern's first and at its last place by turns; how many tags change. */
 static size_t run_placed(struct placed_book *book, size_t length)
 {
+    static size_t runs;
     size_t changed;
     uint64_t answer;
 
@@ -85,6 +96,8 @@ static size_t run_placed(struct placed_book *book, size_t length)
         fail("another count than going place by place gives");
     if (memcmp(last_out, wanted, length) != 0)
         fail("another result than going place by place gives");
+    if (++runs % NUMBERED == 0)
+        number_placed(book, length);
     return changed;
 }
 

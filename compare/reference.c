@@ -210,8 +210,8 @@ static int occurs_at(const struct rule *rule, const uint8_t *tags)
     return 1;
 }
 
-/* The leftmost match; everywhere: matching begins again behind its last tag. */
-static void rewrite(const struct rule *rule, uint8_t *sentence, size_t length)
+/* The leftmost match; everywhere: matching begins again behind its last tag. The rule's number goes where its new tag goes. */
+static void rewrite(const struct rule *rule, int number, uint8_t *sentence, uint8_t *numbers, size_t length)
 {
     size_t x = 0;
 
@@ -221,12 +221,13 @@ static void rewrite(const struct rule *rule, uint8_t *sentence, size_t length)
             continue;
         }
         sentence[x + (size_t)rule->place] = (uint8_t)rule->new_tag;
+        numbers[x + (size_t)rule->place] = (uint8_t)number;
         x = rule->everywhere ? x + (size_t)rule->length : length;
     }
 }
 
 /* Cut after each end tag, each piece rewritten by itself. */
-static void rewrite_pieces(const struct book *book, uint8_t *sentence, size_t length)
+static void rewrite_pieces(const struct book *book, uint8_t *sentence, uint8_t *numbers, size_t length)
 {
     size_t from = 0;
 
@@ -234,25 +235,36 @@ static void rewrite_pieces(const struct book *book, uint8_t *sentence, size_t le
         if (to < length && sentence[to - 1] != book->end)
             continue;
         for (int i = 0; i < book->rules; i++)
-            rewrite(&book->rule[i], sentence + from, to - from);
+            rewrite(&book->rule[i], i + 1, sentence + from, numbers + from, to - from);
         from = to;
     }
 }
 
-uint64_t reference_run_book_ending(const uint8_t *book_bytes, size_t book_len, uint8_t end, const uint8_t *sentence,
-                                   size_t sentence_len, uint8_t *out, size_t out_len)
+uint64_t reference_run_book_rules(const uint8_t *book_bytes, size_t book_len, uint8_t end, const uint8_t *sentence,
+                                  size_t sentence_len, uint8_t *out, size_t out_len, uint8_t *rules, size_t rules_len)
 {
     struct book book;
     int refusal = read_book_ending(book_bytes, book_len, end, &book);
 
     if (!refusal)
-        refusal = refusal_of_sentence(sentence, sentence_len, book.tags, out_len);
+        refusal = refusal_of_sentence(sentence, sentence_len, book.tags, out_len < rules_len ? out_len : rules_len);
     if (refusal)
         return (uint64_t)refusal;
-    for (size_t i = 0; i < sentence_len; i++)
+    for (size_t i = 0; i < sentence_len; i++) {
         out[i] = sentence[i];
-    rewrite_pieces(&book, out, sentence_len);
+        rules[i] = 0;
+    }
+    rewrite_pieces(&book, out, rules, sentence_len);
     return changed_times_256(sentence, out, sentence_len);
+}
+
+/* The same with numbers that nobody reads. */
+uint64_t reference_run_book_ending(const uint8_t *book, size_t book_len, uint8_t end, const uint8_t *sentence,
+                                   size_t sentence_len, uint8_t *out, size_t out_len)
+{
+    static uint8_t unread[LONGEST_SENTENCE];
+
+    return reference_run_book_rules(book, book_len, end, sentence, sentence_len, out, out_len, unread, sizeof unread);
 }
 
 uint64_t reference_run_book(const uint8_t *book, size_t book_len, const uint8_t *sentence, size_t sentence_len, uint8_t *out,

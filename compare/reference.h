@@ -13,6 +13,8 @@ uint64_t reference_compile_ending(const uint8_t *book, size_t book_len, uint8_t 
                                   size_t work_len, uint8_t *out, size_t out_len);
 uint64_t reference_run_book_ending(const uint8_t *book, size_t book_len, uint8_t end, const uint8_t *sentence,
                                    size_t sentence_len, uint8_t *out, size_t out_len);
+uint64_t reference_run_book_rules(const uint8_t *book, size_t book_len, uint8_t end, const uint8_t *sentence,
+                                  size_t sentence_len, uint8_t *out, size_t out_len, uint8_t *rules, size_t rules_len);
 uint64_t reference_run_table(const uint8_t *table, size_t table_len, const uint8_t *sentence, size_t sentence_len,
                              uint8_t *out, size_t out_len);
 uint64_t reference_read_book(const uint8_t *book, size_t book_len);
