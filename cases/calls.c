@@ -3,7 +3,8 @@
 
    run_table ROOM TABLE / SENTENCE      the number of changed tags or the refusal, then the output slice
    run_book ROOM BOOK / SENTENCE        the same
-   run_compiled ROOM BOOK / SENTENCE    the same, by the table that the book compiles to, or compile's refusal
+   run_rules ROOM ROOM BOOK / SENTENCE  the same, then the rules slice, whose length is the second number
+   run_compiled ROOM BOOK / SENTENCE    as run_book, by the table that the book compiles to, or compile's refusal
    compile CEILING ENTRIES ROOM BOOK    the table's states and bytes and on how many sentences it does what the book does, or the refusal
    slices CEILING ENTRIES ROOM BOOK     states and bytes or the refusal, then how much of the slices' memory has changed
    one_rules COMMAND K LONGEST [LAST]   for 1 to LONGEST every book of one rule with so many of 0 and 1 in its pattern, LAST behind them, and
@@ -23,10 +24,12 @@
    or what a host does between two calls: set STATE GIVEN CLOSED, which sets the sentence's numbers, or byte AT BYTE, which replaces a byte
    of the table.
 
-   With ending END in front, run_book, run_compiled, compile, slices and one_rules make the calls that name an end tag.
+   With ending END in front, run_book, run_rules, run_compiled, compile, slices and one_rules make the calls that name an end tag; for
+   run_rules it is 255 otherwise.
 
    ROOM is the length of the output slice, ENTRIES that of the work slice; bytes are pairs of hexadecimal digits, numbers decimal. Output
-   and work slices are the front of longer memory, which holds sevens before each call; typing tells where other bytes of it were written.
+   and work slices are the front of longer memory, which holds sevens before each call; typing and run_rules tell where other bytes of it
+   were written.
    A line that can't be read ends the program with status 2. */
 #include <nedzsuka.h>
 
@@ -40,11 +43,11 @@ enum { MOST_ENTRIES = 1081344, MOST_BYTES = 65536, MOST_NUMBERS = 4096, LONGEST_
 
 static char line[LONGEST_LINE];
 static size_t lines;
-static uint8_t first[MOST_BYTES], sentence[MOST_BYTES], out[MOST_BYTES]; /* first: the book or table */
+static uint8_t first[MOST_BYTES], sentence[MOST_BYTES], out[MOST_BYTES], rules[MOST_BYTES]; /* first: the book or table */
 static uint16_t work[MOST_ENTRIES];
 static uint32_t loaded[MOST_NUMBERS];
 static uint8_t end_tag;
-static int with_end; /* whether the line's call names an end tag */
+static int with_end; /* whether the line names an end tag */
 
 static void unreadable(const char *why)
 {
@@ -144,18 +147,25 @@ static void load_table(void)
         printf(" %" PRIu32, loaded[i]);
 }
 
-static void print_output(size_t room)
+static void print_slice(const char *name, const uint8_t *slice, size_t room)
 {
-    printf(", output");
+    printf(", %s", name);
     for (size_t i = 0; i < room; i++)
-        printf(" %d", out[i]);
+        printf(" %d", slice[i]);
+}
+
+static void print_beyond(const uint8_t *slice, size_t room)
+{
+    for (size_t i = room; i < MOST_BYTES; i++)
+        if (slice[i] != 7)
+            printf(", written at %zu", i);
 }
 
 static void print_run(uint64_t answer, size_t room)
 {
     if (!refused(answer, "nothing"))
         printf("%" PRIu64 " changed", nedzsuka_value(answer));
-    print_output(room);
+    print_slice("output", out, room);
 }
 
 static uint64_t run_book(size_t book_len, size_t length, uint8_t *to, size_t room)
@@ -177,6 +187,17 @@ static void run(int table)
     size_t room = read_number(MOST_BYTES), first_len = read_bytes(first, 1), length = read_bytes(sentence, 0);
 
     print_run(table ? nedzsuka_run_table(first, first_len, sentence, length, out, room) : run_book(first_len, length, out, room), room);
+}
+
+static void run_rules(void)
+{
+    size_t room = read_number(MOST_BYTES), rules_room = read_number(MOST_BYTES), book_len = read_bytes(first, 1);
+    size_t length = read_bytes(sentence, 0);
+
+    print_run(nedzsuka_run_book_rules(first, book_len, end_tag, sentence, length, out, room, rules, rules_room), room);
+    print_beyond(out, room);
+    print_slice("rules", rules, rules_room);
+    print_beyond(rules, rules_room);
 }
 
 static void run_compiled(void)
@@ -303,10 +324,8 @@ static void print_step(uint64_t answer, const char *call, size_t room, const str
     if (!refused(answer, "nothing"))
         printf("%" PRIu64 " put", nedzsuka_value(answer));
     if (strcmp(call, "open") != 0)
-        print_output(room);
-    for (size_t i = room; i < MOST_BYTES; i++)
-        if (out[i] != 7)
-            printf(", written at %zu", i);
+        print_slice("output", out, room);
+    print_beyond(out, room);
     printf(", sentence %" PRIu64 " %" PRIu64 " %" PRIu64, typed->state, typed->given, typed->closed);
 }
 
@@ -355,23 +374,32 @@ static void type(void)
 static const char *read_ending(const char *word)
 {
     with_end = word != NULL && strcmp(word, "ending") == 0;
+    end_tag = NEDZSUKA_NO_END;
     if (!with_end)
         return word;
     end_tag = (uint8_t)read_number(UINT8_MAX);
     return strtok(NULL, " \n");
 }
 
-static void answer_line(const char *word)
+static void fill_slices(void)
 {
-    word = read_ending(word);
-    word = word == NULL ? "" : word;
     memset(out, 7, sizeof out);
+    memset(rules, 7, sizeof rules);
     for (size_t i = 0; i < MOST_ENTRIES; i++)
         work[i] = 7;
     for (size_t i = 0; i < MOST_NUMBERS; i++)
         loaded[i] = 7;
+}
+
+static void answer_line(const char *word)
+{
+    word = read_ending(word);
+    word = word == NULL ? "" : word;
+    fill_slices();
     if (strcmp(word, "run_table") == 0 || strcmp(word, "run_book") == 0)
         run(strcmp(word, "run_table") == 0);
+    else if (strcmp(word, "run_rules") == 0)
+        run_rules();
     else if (strcmp(word, "run_compiled") == 0)
         run_compiled();
     else if (strcmp(word, "compile") == 0 || strcmp(word, "slices") == 0)

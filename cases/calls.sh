@@ -359,9 +359,10 @@ ends 'no tags' 3 "$noun" '' "0 changed, output$(times 13 ' 7')"
 ends 'a pattern that ends with it' 3 "$closing" '00 00 03 00 03 01 00' '2 changed, output 0 1 3 1 3 1 0 7 7 7 7 7 7'
 ends 'the lowest tag' 0 "$opening" '03 01 03 01 00 03 01' '2 changed, output 3 2 3 1 0 3 2 7 7 7 7 7 7'
 
-# gives_14 NAME END BOOK: from the run, before 4 and 11, and from compile, before 9, with both slices as they were; 8 comes before it.
+# gives_14 NAME END BOOK: from the runs, before 4 and 11, and from compile, before 9, with all slices as they were; 8 comes before it.
 gives_14() {
     call "$1, end tag $2, run" "ending $2 run_book 2 $3 / ff ff ff" 'refused 14, output 7 7'
+    call "$1, end tag $2, run with rules" "ending $2 run_rules 2 2 $3 / ff ff ff" 'refused 14, output 7 7, rules 7 7'
     call "$1, end tag $2" "ending $2 slices 3 3120 99 $3" 'refused 14; 0 entries and 0 bytes other than before'
     call "$1, end tag $2, no entries" "ending $2 slices 3 0 0 $3" 'refused 14; 0 entries and 0 bytes other than before'
     call "$1, end tag $2, ceiling 0" "ending $2 slices 0 0 0 $3" 'refused 8; 0 entries and 0 bytes other than before'
@@ -653,3 +654,90 @@ typing '0 0 to 1 0 everywhere, typed' "$table" open '0 put, sentence 0 0 0' \
     'give 0 3' '2 put, output 1 0 7, sentence 0 2 0' 'look 2' '0 put, output 7 7, sentence 0 2 0' \
     'give 0 3' '0 put, output 7 7 7, sentence 1 3 0' 'give 1 3' '2 put, output 0 1 7, sentence 0 4 0' \
     'give 0 3' '0 put, output 7 7 7, sentence 1 5 0' 'close 2' '1 put, output 0 7, sentence 1 5 1'
+
+# ---- Each tag with its rule ----
+
+# numbered NAME BOOK SENTENCE RESULT [END]: with slices of eight bytes.
+numbered() { call "$1, rules${5:+, end tag $5}" "${5:+ending $5 }run_rules 8 8 $2 / $3" "$4"; }
+
+# Document 01's sentences. In C's third one the second rule takes back what the first one did, and its number stays.
+book_c='20 05 21 01 02 22 00 22 01 21 00 01 22 02 22 03 00'
+numbered 'book A, 0 0 1 0 1' "$book_a" '00 00 01 00 01' '1 changed, output 0 1 1 0 1 7 7 7, rules 0 1 0 0 0 7 7 7'
+numbered 'book B, 0 0' '20 02 21 00 01 22 00 21 00 00 22 01 00' '00 00' '0 changed, output 0 0 7 7 7 7 7 7, rules 2 0 7 7 7 7 7 7'
+numbered 'book B, 1 0 0' '20 02 21 00 01 22 00 21 00 00 22 01 00' '01 00 00' '2 changed, output 0 1 0 7 7 7 7 7, rules 2 1 0 7 7 7 7 7'
+numbered 'book C, 0 1 0 0' "$book_c" '00 01 00 00' '1 changed, output 0 2 0 0 7 7 7 7, rules 0 1 0 0 7 7 7 7'
+numbered 'book C, 0 0 2 2 3 0' "$book_c" '00 00 02 02 03 00' '1 changed, output 0 0 2 1 3 0 7 7, rules 0 0 0 2 0 0 7 7'
+numbered 'book C, 4 2 0 1 3 0' "$book_c" '04 02 00 01 03 00' '0 changed, output 4 2 0 1 3 0 7 7, rules 0 0 0 2 0 0 7 7'
+numbered 'no rules' '20 02 00' '01 00' '0 changed, output 1 0 7 7 7 7 7 7, rules 0 0 7 7 7 7 7 7'
+
+# Several rules: 0 to 1 and 1 to 2, at one place; 0 1 to 0 2 and 0 2 to 1 2, the second on what the first made; 0 to 1, 1 to 0 and 0 to 1
+# again; 1 1 to 0 1, which does not fire but counts, and 0 to 1
+numbered 'two rules at one place' '20 03 21 00 01 22 00 21 00 02 22 01 00' '02 00 00' \
+    '1 changed, output 2 2 0 7 7 7 7 7, rules 0 2 0 7 7 7 7 7'
+numbered 'on what another made' '20 03 21 01 02 22 00 22 01 21 00 01 22 00 22 02 00' '00 00 01' \
+    '2 changed, output 0 1 2 7 7 7 7 7, rules 0 2 1 7 7 7 7 7'
+numbered 'made, taken back and made again' '20 02 21 00 01 22 00 21 00 00 22 01 21 00 01 22 00 00' '00 01' \
+    '1 changed, output 1 1 7 7 7 7 7 7, rules 3 0 7 7 7 7 7 7'
+numbered 'behind a rule that does not fire' '20 02 21 00 00 22 01 22 01 21 00 01 22 00 00' '01 00 01' \
+    '1 changed, output 1 1 1 7 7 7 7 7, rules 0 2 0 7 7 7 7 7'
+numbered 'the sixteenth alone' "20 02$(times 15 ' 21 00 00 22 01') 21 00 01 22 00 00" '00 00' \
+    '1 changed, output 1 0 7 7 7 7 7 7, rules 16 0 7 7 7 7 7 7'
+numbered 'sixteen at one place' "20 02$(times 8 ' 21 00 01 22 00 21 00 00 22 01') 00" '00 01' \
+    '0 changed, output 0 1 7 7 7 7 7 7, rules 16 0 7 7 7 7 7 7'
+
+# Everywhere: at the place of each match, and at none of a match that begins within another
+numbered '0 0 to 1 0 everywhere, 5 times 0' "$pair" '00 00 00 00 00' '2 changed, output 1 0 1 0 0 7 7 7, rules 1 0 1 0 0 7 7 7'
+numbered '0 0 to 1 0 once, 4 times 0' "$pair_once" '00 00 00 00' '1 changed, output 1 0 0 0 7 7 7 7, rules 1 0 0 0 7 7 7 7'
+numbered '0 1 0 to 0 2 0 everywhere, overlapping' "$bordered" '00 01 00 01 00' '1 changed, output 0 2 0 1 0 7 7 7, rules 0 1 0 0 0 7 7 7'
+numbered '0 1 0 to 0 2 0 everywhere, the first and the third' "$bordered" '00 01 00 01 00 01 00' \
+    '2 changed, output 0 2 0 1 0 2 0 7, rules 0 1 0 0 0 1 0 7'
+numbered 'everywhere, then once' "$all_then_once" '00 01 00' '1 changed, output 0 1 1 7 7 7 7 7, rules 2 0 1 7 7 7 7 7'
+numbered 'once, then everywhere' "$once_then_all" '00 01 00' '2 changed, output 1 1 1 7 7 7 7 7, rules 2 2 2 7 7 7 7 7'
+numbered 'pairs, everywhere' "20 02 24 ${pairs[0]} 24 ${pairs[1]} 00" '00 00 00 00' '4 changed, output 1 1 1 1 7 7 7 7, rules 1 2 1 2 7 7 7 7'
+numbered 'pairs, once and everywhere' "20 02 21 ${pairs[0]} 24 ${pairs[1]} 00" '00 00 00 00' \
+    '2 changed, output 1 1 0 0 7 7 7 7, rules 1 2 0 0 7 7 7 7'
+call '0 0 to 1 0 everywhere, the longest sentence, rules' "run_rules 65535 65535 $pair /$longest" \
+    "$longest_made, rules$(times 32767 ' 1 0') 0"
+
+# End tags: piece by piece. The last book has 0 1 to 0 2 and 2 0 to 1 0.
+numbered '0 1 to 0 2' "$noun" '00 01 00 01 03 00 01 03' '2 changed, output 0 2 0 1 3 0 2 3, rules 0 1 0 0 0 0 1 0' 3
+numbered '0 1 to 0 2' "$noun" '00 01 00 01 03 00 01 03' '1 changed, output 0 2 0 1 3 0 1 3, rules 0 1 0 0 0 0 0 0' 255
+numbered '0 1 to 0 2' "$noun" '00 01 00 01 03 00 01 03' '1 changed, output 0 2 0 1 3 0 1 3, rules 0 1 0 0 0 0 0 0'
+numbered '0 3 to 1 3' "$closing" '00 00 03 00 03 01 00' '2 changed, output 0 1 3 1 3 1 0 7, rules 0 1 0 1 0 0 0 7' 3
+numbered '0 0 to 1 0 everywhere' "20 03 24 ${pairs[0]} 00" '00 00 00 00 02 00 00 00' \
+    '3 changed, output 1 0 1 0 2 1 0 0, rules 1 0 1 0 0 1 0 0' 2
+numbered 'pairs, once and everywhere' "20 03 21 ${pairs[0]} 24 ${pairs[1]} 00" '00 00 00 02 00 00 00' \
+    '4 changed, output 1 1 0 2 1 1 0 7, rules 1 2 0 0 1 2 0 7' 2
+taken_back='20 04 21 01 02 22 00 22 01 21 00 01 22 02 22 00 00'
+numbered 'taken back in the first piece' "$taken_back" '00 01 00 03 02 00 03 00' '1 changed, output 0 1 0 3 1 0 3 0, rules 0 2 0 0 2 0 0 0' 3
+numbered 'taken back in the only piece' "$taken_back" '00 01 00 03 02 00 03 00' '0 changed, output 0 1 0 3 2 0 3 0, rules 0 2 0 0 0 0 0 0' 255
+
+# rooms NAME ROOM ROOM SENTENCE RESULT: book A with slices of other lengths.
+rooms() { call "book A, rules, $1" "run_rules $2 $3 $book_a / $4" "$5"; }
+tags='00 00 01 00 01'
+
+rooms 'both slices exact' 5 5 "$tags" '1 changed, output 0 1 1 0 1, rules 0 1 0 0 0'
+rooms 'both slices longer' 6 9 "$tags" '1 changed, output 0 1 1 0 1 7, rules 0 1 0 0 0 7 7 7 7'
+rooms 'output one short' 4 5 "$tags" 'refused 11, output 7 7 7 7, rules 7 7 7 7 7'
+rooms 'rules one short' 5 4 "$tags" 'refused 11, output 7 7 7 7 7, rules 7 7 7 7'
+rooms 'output one short, rules longer' 4 9 "$tags" 'refused 11, output 7 7 7 7, rules 7 7 7 7 7 7 7 7 7'
+rooms 'rules one short, output longer' 9 4 "$tags" 'refused 11, output 7 7 7 7 7 7 7 7 7, rules 7 7 7 7'
+rooms 'both one short' 4 4 "$tags" 'refused 11, output 7 7 7 7, rules 7 7 7 7'
+rooms 'output of no bytes' 0 5 "$tags" 'refused 11, output, rules 7 7 7 7 7'
+rooms 'rules of no bytes' 5 0 "$tags" 'refused 11, output 7 7 7 7 7, rules'
+rooms 'no tags, both slices empty' 0 0 '' '0 changed, output, rules'
+rooms 'no tags, both slices longer' 2 3 '' '0 changed, output 7 7, rules 7 7 7'
+rooms 'the longest sentence, rules one short' 65535 65534 "$longest" "refused 11, output$(times 65535 ' 7'), rules$(times 65534 ' 7')"
+
+# Refusals in their order, each with what would give the next ones; 14 is with those of the other calls, 11 above.
+refused_book() { call "$2, rules" "ending 254 run_rules 2 2 $3 / $longer" "refused $1, output 7 7, rules 7 7"; }
+refused_book 1 'a book without its end' "${book_a% *}"
+refused_book 2 'K 1' '20 01 00'
+refused_book 3 'an empty pattern' '20 02 21 00 01 00'
+refused_book 4 'a new tag not below K' '20 02 21 00 02 22 00 00'
+refused_book 5 'a place outside the pattern' '20 02 24 01 01 22 00 00'
+refused_book 6 'the same tag' '20 02 24 00 00 22 00 00'
+refused_book 7 'a seventeenth rule' "20 02$(times 16 ' 21 00 01 22 00') 24 00 01 22 00 00"
+refused_book 14 'an end tag that is no tag' "$book_a"
+rooms 'a longer sentence with a tag not below K' 2 2 "$longer" 'refused 13, output 7 7, rules 7 7'
+rooms 'a tag not below K' 2 2 '00 02 01' 'refused 4, output 7 7, rules 7 7'
