@@ -1,5 +1,6 @@
 /* example [-c CEILING] [-e END] BOOK [TAG ...]: compiles the book in a file, loads the table once, and tags sentences with it.
-   example [-c CEILING] [-e END] -t BOOK: compiles the book, and tags a sentence while it is typed on standard input. */
+   example [-c CEILING] [-e END] -t BOOK: compiles the book, and tags a sentence while it is typed on standard input.
+   example [-e END] -r BOOK [TAG ...]: runs the book itself over sentences, and tells each tag's rule. */
 #include <nedzsuka.h>
 
 #include <ctype.h>
@@ -11,10 +12,11 @@
 
 #define SYNOPSIS \
     "usage: example [-c CEILING] [-e END] BOOK [TAG ...]\n" \
-    "       example [-c CEILING] [-e END] -t BOOK\n"
+    "       example [-c CEILING] [-e END] -t BOOK\n" \
+    "       example [-e END] -r BOOK [TAG ...]\n"
 #define NOT_A_TAG "not a tag, a number from 0 to 255"
 
-/* Exit statuses, the worse the greater; every function of type int answers one, those excepted that read a number or a word. */
+/* Exit statuses, the worse the greater; a function of type int answers one where nothing else is said. */
 enum { DONE = 0, REFUSED = 1, FAILED = 2 };
 enum { LONGEST_WORD = 20 };
 
@@ -28,6 +30,10 @@ static const char usage[] =
     "With -t the sentence is typed on standard input, its tags with white space between, up to the\n"
     "end of input. Prints after each tag what is certain so far, whatever is typed next, and what\n"
     "closing the sentence now would add; in the end the result.\n"
+    "With -r the book itself is run, rule by rule. Prints the result, under each of its tags the\n"
+    "number of the last rule that rewrote this place, counted from 1, or 0 where none did, and the\n"
+    "number of changed tags: a tag that was rewritten and rewritten back has a number, but isn't one\n"
+    "of them.\n"
     "\n"
     "  BOOK        a file with the raw bytes of a book, not text; nedzsuka.h says what they are\n"
     "  TAG ...     the sentence, each tag a number from 0 to 255; empty if there are none\n"
@@ -35,6 +41,7 @@ static const char usage[] =
     "  -e END      the tag that ends a sentence; 255, which is none, if not given\n"
     "  -t          the sentence is typed; a tag that is refused, or what isn't a tag, is told on\n"
     "              standard error, and the sentence goes on as if it hadn't been typed\n"
+    "  -r          each tag with its rule; no table is made, so that -c and -t can't be given\n"
     "\n"
     "Exit status:\n"
     "  0  a result\n"
@@ -45,7 +52,7 @@ static const char usage[] =
 /* What the arguments ask for. */
 struct request {
     uint64_t ceiling, end;
-    int typing;
+    int limited, typing, numbered; /* whether there is -c, -t or -r */
     const char *book;
     char **tags;
     size_t count;
@@ -76,8 +83,17 @@ static int read_number(const char *text, uint64_t limit, uint64_t *number)
     return *end == '\0' && errno == 0 && *number <= limit;
 }
 
+/* Whether the option stands for itself, with no value after it. */
+static int takes_no_value(const char *option)
+{
+    return strcmp(option, "-t") == 0 || strcmp(option, "-r") == 0;
+}
+
 static int read_option(const char *option, const char *value, struct request *request)
 {
+    request->limited |= strcmp(option, "-c") == 0;
+    request->typing |= strcmp(option, "-t") == 0;
+    request->numbered |= strcmp(option, "-r") == 0;
     if (strcmp(option, "-c") == 0)
         return value != NULL && read_number(value, UINT64_MAX, &request->ceiling)
                    ? DONE
@@ -86,11 +102,16 @@ static int read_option(const char *option, const char *value, struct request *re
         return value != NULL && read_number(value, UINT8_MAX, &request->end)
                    ? DONE
                    : wrong_argument(option, "no number from 0 to 255 after it");
-    if (strcmp(option, "-t") == 0) {
-        request->typing = 1;
-        return DONE;
-    }
-    return wrong_argument(option, "not an option here");
+    return takes_no_value(option) ? DONE : wrong_argument(option, "not an option here");
+}
+
+static int check_options(const struct request *request)
+{
+    if (request->numbered && (request->limited || request->typing))
+        return wrong_argument(request->limited ? "-c" : "-t", "not with -r: no table is made there");
+    if (request->typing && request->count > 0)
+        return wrong_argument(request->tags[0], "no TAG with -t: they are typed on standard input");
+    return DONE;
 }
 
 static int read_arguments(int argc, char **argv, struct request *request)
@@ -99,8 +120,8 @@ static int read_arguments(int argc, char **argv, struct request *request)
 
     request->ceiling = NEDZSUKA_MOST_STATES;
     request->end = NEDZSUKA_NO_END;
-    request->typing = 0;
-    for (; at < argc && argv[at][0] == '-'; at += strcmp(argv[at], "-t") == 0 ? 1 : 2)
+    request->limited = request->typing = request->numbered = 0;
+    for (; at < argc && argv[at][0] == '-'; at += takes_no_value(argv[at]) ? 1 : 2)
         if (read_option(argv[at], argv[at + 1], request) != DONE)
             return FAILED;
     if (at >= argc)
@@ -108,9 +129,7 @@ static int read_arguments(int argc, char **argv, struct request *request)
     request->book = argv[at];
     request->tags = argv + at + 1;
     request->count = (size_t)(argc - at - 1);
-    if (request->typing && request->count > 0)
-        return wrong_argument(request->tags[0], "no TAG with -t: they are typed on standard input");
-    return DONE;
+    return check_options(request);
 }
 
 /* One byte more than the longest valid book is enough: the refusal of a longer one lies within. */
@@ -180,6 +199,16 @@ static int refused(uint64_t answer, const char *named)
         fprintf(stderr, " at %s %" PRIu64, named, nedzsuka_value(answer));
     fprintf(stderr, ": %s\n", nedzsuka_in_words(nedzsuka_refusal(answer)));
     return REFUSED;
+}
+
+/* The refusal of a call over a book: those of the book name the byte, which reading it has answered. */
+static int refused_book(uint64_t answer, uint64_t read)
+{
+    if (nedzsuka_refusal(answer) == NEDZSUKA_TOO_MANY_STATES)
+        return refused(answer, "rule");
+    if (nedzsuka_refusal(answer) == nedzsuka_refusal(read))
+        return refused(read, "byte");
+    return refused(answer, NULL);
 }
 
 /* Output is held back until it is closed, so that a full or closed one shows at the latest here. */
@@ -318,22 +347,63 @@ static int type_sentence(const uint8_t *table, size_t table_len)
     return worse(status, close_typing(&typing));
 }
 
-static int run(const uint8_t *book, size_t book_len, const struct request *request, const uint8_t *sentence)
+/* How many digits a column has. No tag and no rule's number has more than two. */
+static int width_of(const uint8_t *result, const uint8_t *rules, size_t count)
+{
+    for (size_t i = 0; i < count; i++)
+        if (result[i] > 9 || rules[i] > 9)
+            return 2;
+    return 1;
+}
+
+/* The name is filled up, so that one row's numbers stand under the other's. */
+static void print_row(const char *name, const uint8_t *numbers, size_t count, int width)
+{
+    printf("%-*s", count == 0 ? 0 : (int)strlen("result:"), name);
+    for (size_t i = 0; i < count; i++)
+        printf(" %*d", width, numbers[i]);
+    putchar('\n');
+}
+
+static int print_rules(const uint8_t *result, const uint8_t *rules, size_t count, uint64_t changed)
+{
+    int width = width_of(result, rules, count);
+
+    print_row("result:", result, count, width);
+    print_row("rules:", rules, count, width);
+    printf("changed: %" PRIu64 "\n", changed);
+    return close_output();
+}
+
+/* The book is run as it is, since a table doesn't know the rules that it comes from. */
+static int tell_rules(const uint8_t *book, size_t book_len, const struct request *request, const uint8_t *sentence)
+{
+    size_t count = request->count;
+    uint8_t *result = allocate(count), *rules = allocate(count);
+    uint64_t answer = nedzsuka_run_book_rules(book, book_len, (uint8_t)request->end, sentence, count, result, count, rules, count);
+    int status;
+
+    if (nedzsuka_refusal(answer) == NEDZSUKA_OK)
+        status = print_rules(result, rules, count, nedzsuka_value(answer));
+    else
+        status = refused_book(answer, nedzsuka_read_book(book, book_len));
+    free(rules);
+    free(result);
+    return status;
+}
+
+static int use_table(const uint8_t *book, size_t book_len, const struct request *request, const uint8_t *sentence)
 {
     uint8_t *table;
     uint64_t read = nedzsuka_read_book(book, book_len), answer = compile_book(book, book_len, read, request, &table);
     int status;
 
-    if (nedzsuka_refusal(answer) == NEDZSUKA_OK && request->typing)
+    if (nedzsuka_refusal(answer) != NEDZSUKA_OK)
+        status = refused_book(answer, read);
+    else if (request->typing)
         status = type_sentence(table, (size_t)nedzsuka_value(answer));
-    else if (nedzsuka_refusal(answer) == NEDZSUKA_OK)
-        status = tag_sentence(table, (size_t)nedzsuka_value(answer), sentence, request->count);
-    else if (nedzsuka_refusal(answer) == NEDZSUKA_TOO_MANY_STATES)
-        status = refused(answer, "rule");
-    else if (nedzsuka_refusal(answer) == nedzsuka_refusal(read))
-        status = refused(read, "byte");
     else
-        status = refused(answer, NULL);
+        status = tag_sentence(table, (size_t)nedzsuka_value(answer), sentence, request->count);
     free(table);
     return status;
 }
@@ -357,7 +427,7 @@ int main(int argc, char **argv)
     if (status == DONE)
         status = read_book(request.book, book, &book_len);
     if (status == DONE)
-        status = run(book, book_len, &request, sentence);
+        status = (request.numbered ? tell_rules : use_table)(book, book_len, &request, sentence);
     free(sentence);
     return status;
 }
