@@ -15,7 +15,8 @@
 #include "sentences.h"
 
 enum { LIBRARY, PLAIN, BOTH };
-enum call { COMPILE, RUN_BOOK, RUN_TABLE, LOAD, RUN_LOADED, RUN_TAG, GIVE, LOOK };
+/* Those that need no table come first. */
+enum call { COMPILE, RUN_BOOK, RUN_ENDING, RUN_RULES, RUN_TABLE, LOAD, RUN_LOADED, RUN_TAG, GIVE, LOOK };
 enum { PASSES = 8, ROUNDS = 6, MOST_TIMES = 100000, MOST_BOOKS = 64, NAME = 48 };
 
 struct workload {
@@ -55,10 +56,12 @@ struct figures {
     uint64_t ceiling;
     int states;
     double beside[BESIDE][BOTH], typing[TYPING][BOTH], alone[KINDS][LENGTHS][RUNS], full[LENGTHS][RUNS][BOTH];
+    double unnumbered[LENGTHS], numbered[LENGTHS][BOTH]; /* runs without and with rule numbers, no end tag */
     double fresh, again; /* a compile whose work slice is fresh memory, and the next one */
 };
 
 static uint8_t table[NEDZSUKA_LONGEST_TABLE], out[BOTH][NEDZSUKA_LONGEST_TABLE];
+static uint8_t rules[BOTH][NEDZSUKA_LONGEST_SENTENCE];
 static uint32_t loaded[NEDZSUKA_LONGEST_TABLE], loaded_out[BOTH][NEDZSUKA_LONGEST_TABLE];
 static uint16_t *work;
 static size_t table_len, loaded_len;
@@ -96,6 +99,13 @@ static uint64_t call(int which, const struct workload *load)
                                                                      NEDZSUKA_MOST_WORK, out[which], sizeof out[which]);
     case RUN_BOOK:
         return (which == LIBRARY ? nedzsuka_run_book : plain_run_book)(timed->book, timed->book_len, sentence, tags, out[which], tags);
+    case RUN_ENDING:
+        if (which == PLAIN)
+            return plain_run_book(timed->book, timed->book_len, sentence, tags, out[which], tags);
+        return nedzsuka_run_book_ending(timed->book, timed->book_len, NEDZSUKA_NO_END, sentence, tags, out[which], tags);
+    case RUN_RULES:
+        return (which == LIBRARY ? nedzsuka_run_book_rules : plain_run_book_rules)(
+            timed->book, timed->book_len, NEDZSUKA_NO_END, sentence, tags, out[which], tags, rules[which], tags);
     case RUN_TABLE:
         return (which == LIBRARY ? nedzsuka_run_table : plain_run_table)(table, table_len, sentence, tags, out[which], tags);
     case RUN_TAG:
@@ -117,8 +127,10 @@ static void agree(const char *name, const struct workload *load)
 
     memset(out, 0, sizeof out);
     memset(loaded_out, 0, sizeof loaded_out);
+    memset(rules, 0, sizeof rules);
     answer = call(LIBRARY, load);
     if (answer != call(PLAIN, load) || memcmp(out[LIBRARY], out[PLAIN], sizeof out[PLAIN]) != 0 ||
+        memcmp(rules[LIBRARY], rules[PLAIN], sizeof rules[PLAIN]) != 0 ||
         memcmp(loaded_out[LIBRARY], loaded_out[PLAIN], sizeof loaded_out[PLAIN]) != 0) {
         fprintf(stderr, "bench: %s, %s: the library and plain C differ\n", name, load->heading);
         exit(1);
@@ -156,7 +168,7 @@ static void measure(const struct workload *load, double *seconds, int both)
 
 static int needs_table(const struct workload *load)
 {
-    return load->call != COMPILE && load->call != RUN_BOOK;
+    return load->call >= RUN_TABLE;
 }
 
 /* Random sentences, each call beside plain C. */
@@ -203,6 +215,19 @@ static void measure_full(struct figures *f)
         }
 }
 
+/* The run with rule numbers beside plain C, and the run without them. */
+static void measure_rules(struct figures *f)
+{
+    for (int length = 0; length < LENGTHS && sentences.made[FIRING]; length++) {
+        struct workload without = {"without rule numbers", RUN_ENDING, FIRING, (enum length)length};
+        struct workload with = {"with rule numbers", RUN_RULES, FIRING, (enum length)length};
+        agree(f->name, &without);
+        agree(f->name, &with);
+        measure(&without, &f->unnumbered[length], PLAIN);
+        measure(&with, f->numbered[length], BOTH);
+    }
+}
+
 /* With a work slice that is as long as needed and was never touched, and again with the same. */
 static void measure_fresh(struct figures *f)
 {
@@ -237,6 +262,7 @@ static void bench(struct figures *f)
     measure_alone(f, FIRING);
     measure_alone(f, QUIET);
     measure_full(f);
+    measure_rules(f);
     measure_fresh(f);
 }
 
@@ -342,6 +368,21 @@ static void print_full(const struct figures *figures, int books)
         }
 }
 
+static void print_rules(const struct figures *figures, int books)
+{
+    printf("\n%-42s %6s %13s %13s %13s %13s\n", "nanoseconds, end tag 255, rules fire", "tags", "book ending", "book rules",
+           "plain C rules", "rules / C");
+    for (int b = 0; b < books; b++)
+        for (int length = 0; length < LENGTHS; length++) {
+            printf("%-42s %6zu", figures[b].name, sentence_length[length]);
+            print_figure(figures[b].unnumbered[length] * 1e9, 0);
+            print_figure(figures[b].numbered[length][LIBRARY] * 1e9, 0);
+            print_figure(figures[b].numbered[length][PLAIN] * 1e9, 0);
+            print_figure(ratio(figures[b].numbered[length]), 2);
+            printf("\n");
+        }
+}
+
 static void print_fresh(const struct figures *figures, int books)
 {
     printf("\n%-42s %6s %13s %13s\n", "compile in microseconds, work slice", "states", "fresh", "used before");
@@ -368,6 +409,7 @@ int main(void)
     print_typing(figures, books);
     print_alone(figures, books);
     print_full(figures, books);
+    print_rules(figures, books);
     print_fresh(figures, books);
     free(work);
     return 0;

@@ -101,6 +101,23 @@ static uint64_t differences(const uint8_t *a, const uint8_t *b, size_t n)
     return count;
 }
 
+/* Where rules is not null, a rule's number goes there beside its new tag. */
+static inline void apply_rules(const struct book *b, uint8_t *out, uint8_t *rules, size_t n)
+{
+    for (int i = 0; i < b->rules; i++) {
+        size_t length = b->length[i];
+        for (size_t at = 0; at + length <= n; at++)
+            if (out[at] == b->pattern[i][0] && memcmp(out + at, b->pattern[i], length) == 0) {
+                out[at + b->place[i]] = b->new_tag[i];
+                if (rules != NULL)
+                    rules[at + b->place[i]] = (uint8_t)(i + 1);
+                if (!b->everywhere[i])
+                    break;
+                at += length - 1;
+            }
+    }
+}
+
 uint64_t plain_run_book(const uint8_t *book, size_t book_len, const uint8_t *s, size_t n, uint8_t *out, size_t out_len)
 {
     struct book b;
@@ -114,15 +131,44 @@ uint64_t plain_run_book(const uint8_t *book, size_t book_len, const uint8_t *s, 
         return (uint64_t)refusal;
     if (n > 0)
         memcpy(out, s, n);
-    for (int i = 0; i < b.rules; i++) {
-        size_t length = b.length[i];
-        for (size_t at = 0; at + length <= n; at++)
-            if (out[at] == b.pattern[i][0] && memcmp(out + at, b.pattern[i], length) == 0) {
-                out[at + b.place[i]] = b.new_tag[i];
-                if (!b.everywhere[i])
-                    break;
-                at += length - 1;
-            }
+    apply_rules(&b, out, NULL, n);
+    return differences(s, out, n) * 256;
+}
+
+static int bad_end(const struct book *b, uint8_t end)
+{
+    if (end == 255)
+        return 0;
+    if (end >= b->tags)
+        return 14;
+    for (int i = 0; i < b->rules; i++)
+        if (memchr(b->pattern[i], end, b->length[i] - 1u) != NULL || b->pattern[i][b->place[i]] == end || b->new_tag[i] == end)
+            return 14;
+    return 0;
+}
+
+uint64_t plain_run_book_rules(const uint8_t *book, size_t book_len, uint8_t end, const uint8_t *s, size_t n, uint8_t *out,
+                              size_t out_len, uint8_t *rules, size_t rules_len)
+{
+    struct book b;
+    int refusal = read_book(book, book_len, &b);
+
+    if (!refusal)
+        refusal = bad_end(&b, end);
+    if (!refusal)
+        refusal = bad_sentence(s, n, b.tags);
+    if (!refusal && (out_len < n || rules_len < n))
+        refusal = 11;
+    if (refusal)
+        return (uint64_t)refusal;
+    if (n == 0)
+        return 0;
+    memcpy(out, s, n);
+    memset(rules, 0, n);
+    for (size_t at = 0, length; at < n; at += length) {
+        const uint8_t *last = end == 255 ? NULL : memchr(s + at, end, n - at);
+        length = last == NULL ? n - at : (size_t)(last - s) + 1 - at;
+        apply_rules(&b, out + at, rules + at, length);
     }
     return differences(s, out, n) * 256;
 }

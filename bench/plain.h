@@ -9,6 +9,8 @@ uint64_t plain_compile(const uint8_t *book, size_t book_len, uint64_t ceiling, u
                        size_t out_len);
 uint64_t plain_run_book(const uint8_t *book, size_t book_len, const uint8_t *sentence, size_t sentence_len, uint8_t *out,
                         size_t out_len);
+uint64_t plain_run_book_rules(const uint8_t *book, size_t book_len, uint8_t end, const uint8_t *sentence, size_t sentence_len,
+                              uint8_t *out, size_t out_len, uint8_t *rules, size_t rules_len);
 uint64_t plain_run_table(const uint8_t *table, size_t table_len, const uint8_t *sentence, size_t sentence_len, uint8_t *out,
                          size_t out_len);
 uint64_t plain_give(const uint8_t *table, size_t table_len, uint64_t *state, uint64_t *given, uint64_t *closed, uint8_t tag,
