@@ -163,7 +163,8 @@ uint64_t nedzsuka_run_book_ending(const uint8_t *book, size_t book_len, uint8_t 
    A rule writes its number only at the place p of its match, where it puts its tag, and a rule that fires everywhere at that of each
    match. With an end tag the numbers are found piece by piece, as the tags are. Where several rules rewrote a place, the last one's number
    stands. A place that was rewritten and rewritten back keeps that number, though its tag does not count as changed. So a place with the
-   number 0 has the sentence's tag, and a place whose tag differs from the sentence's has a number.
+   number 0 has the sentence's tag, and a place whose tag differs from the sentence's has a number. The tag at a place with a number is the
+   one that the rule with that number puts.
 
    What lies beyond sentence_len stays as it was in both slices, and on every refusal both keep all their bytes. A table carries no rule
    numbers, so there is no such call for tables.

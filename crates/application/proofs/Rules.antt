@@ -1,5 +1,5 @@
 -- A book's rules one by one, and their numbers.
-use Prim.Native.Nat.{ℕ, suc, _+_, _-_, _≤_, _<_, min}
+use Prim.Native.Nat.{ℕ, _+_, _-_, _≤_, _<_, min}
 use native.Mathlib.Omega.{arith}
 use native.Mathlib.Numerals.{add-one}
 use mathlib.Core.Path.{_≡_, sym, ap, ap₂, _∙_}
@@ -11,7 +11,7 @@ use Rattle.cascades.specs.Rewrite.{apply, applyAll}
 use Rattle.cascades.proofs.Rewrite.{applyAll-append}
 use Rattle.books.specs.Arrays.{Arrays, ruleAt, rulesDown, rulesOf}
 use Rattle.books.proofs.Held.{rules-long}
-use Rattle.traces.specs.Trace.{Traced, beside, mark, traceRule, traceFrom, numbersOf}
+use Rattle.traces.specs.Trace.{Traced, beside, mark, traceFrom, numbersOf}
 use Rattle.traces.specs.Note.{Room}
 use Rattle.traces.proofs.Theorems.{traceFrom-tags, trace-snoc}
 

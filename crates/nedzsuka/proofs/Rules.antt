@@ -1,15 +1,13 @@
 -- Each tag with its rule (document 02, W6), about the function for C: from nothing but its contract.
-use Prim.Native.Nat.{ℕ, _*_, _+_, _/_, _%_, _<_, min}
+use Prim.Native.Nat.{ℕ, _+_, _%_, _<_, min}
 use native.Mathlib.Omega.{arith}
 use mathlib.Core.Path.{_≡_, sym, ap, _∙_, subst}
 use mathlib.Core.List.{List, _++_}
 use lib.ListN.{length, drop, getD, List·getD-append}
 use Rattle.limits.specs.Limits.{longest-pattern}
-use Rattle.words.specs.Word.{differences}
-use Rattle.answers.specs.Outcome.{Outcome, result, refused}
+use Rattle.answers.specs.Outcome.{Outcome, result}
 use Rattle.answers.specs.Slice.{written}
 use Rattle.answers.proofs.Slice.{refused-keeps}
-use Rattle.sentences.specs.Run.{changed}
 use Rattle.cascades.specs.Rule.{Cascade, ValidCascade}
 use Rattle.cascades.specs.Rewrite.{applyAll, behavior}
 use Rattle.cascades.proofs.Rewrite.{applyAll-long}
@@ -23,7 +21,6 @@ use Rattle.tagger.specs.Run.{bookRun}
 use Rattle.tagger.specs.Numbers.{bookNumbers}
 use Rattle.tagger.specs.Rules.{numbers}
 use Rattle.tagger.proofs.Numbers.{Read, was-run}
-use Rattle.packing.specs.Packed.{packed}
 use Rattle.nedzsuka.proofs.Legible.{legible-book}
 use Rattle.nedzsuka.proofs.Demand.{RunCall, made-counted, run-refused-nothing, run-made}
 

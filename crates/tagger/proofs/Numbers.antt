@@ -1,7 +1,7 @@
 -- The two outcomes of a run with rule numbers are refused alike, and where they are not they are the run's and its numbers.
 use Prim.Native.Nat.{ℕ}
 use native.Mathlib.Omega.{arith}
-use mathlib.Core.Path.{_≡_, sym, ap, _∙_}
+use mathlib.Core.Path.{_≡_, ap, _∙_}
 use mathlib.Core.List.{List}
 use Rattle.answers.specs.Outcome.{Outcome, result, andThen}
 use Rattle.answers.proofs.Outcome.{went}

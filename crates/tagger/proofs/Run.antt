@@ -15,13 +15,13 @@ use Rattle.answers.specs.declared.Refusal.{Refusal}
 use Rattle.answers.specs.declared.Refusal.the-variants.{AtByte, AtRule, Bare}
 use Rattle.sentences.specs.Run.{run}
 use Rattle.sentences.proofs.Run.{ran-refused, run-same}
-use Rattle.cascades.specs.Rewrite.{applyAll, behavior}
-use Rattle.cascades.proofs.Ending.{without-end}
 use Rattle.sentences.specs.Parts.{Wrote}
 use Rattle.sentences.specs.Admission.{admission}
 use Rattle.sentences.specs.declared.Admission.{Admission}
 use Rattle.cascades.specs.Rule.{Cascade, ending}
 use Rattle.cascades.specs.Ending.{badEnd}
+use Rattle.cascades.specs.Rewrite.{applyAll, behavior}
+use Rattle.cascades.proofs.Ending.{without-end}
 use Rattle.books.specs.Read.{read}
 use Rattle.books.specs.Ending.{fitted}
 use Rattle.books.specs.Arrays.{Arrays, rulesOf, cascadeOf}
@@ -113,6 +113,7 @@ module _ (bytes : List ℕ) (a : Arrays) (r : BookAnswer) (w : Whole bytes a r) 
     pub applicable : Usable m a
     applicable = usable k m a (rules-held bytes a r w k m f)
 
+    -- without an end tag, from what the rules make of the whole sentence
     pub book-runs-whole : (s : List ℕ) (room : ℕ) → run k s room (applyAll (rulesOf a m) s) ≡ reading behavior bytes no-end s room
     book-runs-whole s room =
         let c = cascadeOf k a m in

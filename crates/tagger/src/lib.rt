@@ -4,7 +4,6 @@ use answers::Refusal;
 use answers::RunAnswer;
 use books::BookAnswer;
 use books::HEAD;
-use limits::NO_END;
 use limits::PATTERN;
 use limits::RULES;
 use sentences::Admission;
@@ -121,7 +120,8 @@ fn run_pieces(
     RunAnswer::Changed(changed)
 }
 
-// Runs a book over a sentence, where the slices that get a result have at least `room` bytes.
+// Runs a book over a sentence, where the slices that get a result have at least `room` bytes. The reader is lent a slice of all of the book: the
+// slice itself would be copied in memory, and the reader would wait for the copy.
 fn run_into(
     book: &[u8],
     end: u8,

@@ -1,5 +1,4 @@
 -- The numbers, on sentences that were worked out by hand. A rule is its kind, pattern, place and new tag.
-use Prim.Native.Nat.{ℕ}
 use mathlib.Core.Path.{_≡_, refl}
 use mathlib.Core.List.{List, [], _∷_}
 use Rattle.cascades.specs.Rule.{once, everywhere, Rule, Cascade}

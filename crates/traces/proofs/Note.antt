@@ -1,15 +1,15 @@
 -- A rule's number stands where the rule has rewritten a tag.
-use Prim.Native.Nat.{ℕ, zero, suc, _+_, _≤_, _<_}
+use Prim.Native.Nat.{ℕ, zero, suc, _+_, _<_}
 use native.Mathlib.Omega.{arith}
-use mathlib.Core.Path.{_≡_, refl, sym, ap, ap₂, _∙_, subst}
+use mathlib.Core.Path.{_≡_, refl, sym, ap, ap₂, _∙_}
 use mathlib.Core.Bool.{Bool, true, false}
-use mathlib.Core.List.{List, [], _∷_, _++_, append-nil}
+use mathlib.Core.List.{List, [], _∷_, _++_}
 use borrow.Author.Tests.{eq-eqb, ne-eqb}
 use lib.Dec.{eqb}
 use lib.ListN.{length, take, drop, set, getD, length-append, length-set, take-append-drop}
-use lib.Seq.{take-at, length-take-le}
+use lib.Seq.{take-at}
 use Rattle.words.specs.Word.{prefix}
-use Rattle.words.proofs.Word.{prefix-split, prefix-length}
+use Rattle.words.proofs.Word.{prefix-split}
 use Rattle.cascades.specs.Rule.{Kind, once, everywhere, Rule}
 use Rattle.cascades.specs.Rewrite.{behind, rewrite, apply}
 use Rattle.cascades.proofs.Rewrite.{apply-long}

@@ -5,13 +5,13 @@ use native.Mathlib.Decide.{ℕ-discrete, decLt}
 use mathlib.Core.Path.{_≡_, refl, sym, ap, _∙_, subst}
 use mathlib.Core.Logic.{_⊎_, inl, inr}
 use mathlib.Core.List.{List, [], _∷_, _++_}
-use lib.ListN.{length, take, getD, replicate, length-replicate, getD-replicate, length-append}
+use lib.ListN.{length, take, getD, replicate, length-replicate, getD-replicate}
 use lib.Seq.{take-all, take-nil, take-append-seam, take-append-add}
-use Rattle.words.specs.Pieces.{pieces, piecewise}
+use Rattle.words.specs.Pieces.{pieces}
 use Rattle.words.proofs.Pieces.{piecewise-same}
 use Rattle.cascades.specs.Rule.{Rule, ValidRule, ValidRules, Cascade, ValidCascade}
 use Rattle.cascades.specs.Rewrite.{apply, applyAll, behavior}
-use Rattle.cascades.proofs.Rewrite.{apply-long, applyAll-long, applyAll-append}
+use Rattle.cascades.proofs.Rewrite.{applyAll-long, applyAll-append}
 use Rattle.traces.specs.Trace.{Traced, beside, mark, traceRule, traceFrom, trace, tagsOf, numbersOf, traced}
 use Rattle.traces.specs.Last.{tagBehind, LastRule, InPiece, Told}
 use Rattle.traces.proofs.Note.{mark-long, mark-kept, mark-put, mark-is-apply}

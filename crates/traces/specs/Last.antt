@@ -1,7 +1,7 @@
 -- What a number says, without a word of matches: the last rule that rewrote a place (document 02, W6).
 use Prim.Native.Nat.{ℕ, suc, _+_, _≤_, _<_}
 use mathlib.Core.Path.{_≡_}
-use mathlib.Core.List.{List, [], _∷_, _++_}
+use mathlib.Core.List.{List, _∷_, _++_}
 use lib.ListN.{length, take, getD}
 use Rattle.words.specs.Pieces.{pieces, each}
 use Rattle.cascades.specs.Rule.{Rule, Cascade}

@@ -2,8 +2,7 @@
 use native.Mathlib.Omega.{arith}
 use borrow.Author.Needs.{needs}
 use Prim.Native.Nat.{ℕ}
-use mathlib.Core.Path.{_≡_, subst, ap, _∙_}
-use lib.ListN.{length}
+use mathlib.Core.Path.{subst, ap, _∙_}
 use Rattle.answers.specs.Slice.{written}
 use Rattle.sentences.specs.Run.{Ran}
 use Rattle.tagger.specs.Run.{bookRun}

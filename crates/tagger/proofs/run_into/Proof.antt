@@ -1,18 +1,17 @@
-use lib.Seq.{take-length}
-use lib.ListN.{length}
-use mathlib.Core.Path.{sym}
-use Rattle.books.specs.Resume.{Whole}
 -- `tagger::run_into` meets its contract.
 use borrow.Author.Needs.{needs}
 use Prim.Native.Nat.{ℕ}
-use mathlib.Core.Path.{_≡_, subst, ap, _∙_}
+use mathlib.Core.Path.{sym, subst, ap, _∙_}
 use mathlib.Core.List.{List}
+use lib.ListN.{length}
+use lib.Seq.{take-length}
 use Rattle.answers.specs.Outcome.{Outcome}
 use Rattle.answers.specs.Slice.{written}
 use Rattle.sentences.specs.Run.{Ran}
 use Rattle.sentences.proofs.Run.{ran-refused}
 use Rattle.cascades.specs.Rewrite.{behavior}
 use Rattle.books.specs.Arrays.{holding}
+use Rattle.books.specs.Resume.{Whole}
 use Rattle.books.proofs.Arrays.{fresh-shaped}
 use Rattle.tagger.specs.Rules.{reading, numbers}
 use Rattle.tagger.proofs.Run.{book-refused, book-runs, few-tags, applicable, numbers-kept}

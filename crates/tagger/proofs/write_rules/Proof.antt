@@ -1,7 +1,8 @@
+-- `tagger::write_rules` meets its contract.
+use borrow.Author.Needs.{needs}
 use Rattle.cascades.specs.Rewrite.{applyAll}
 use Rattle.books.specs.Arrays.{holding, rulesOf}
 use Rattle.tagger.proofs.Run.{front-long, made-long, writes}
-use borrow.Author.Needs.{needs}
 use Rattle.tagger.proofs.write_rules.Statement.{statement}
 use Rattle.tagger.proofs.write_rules.Tie as tie
 use Rattle.tagger.proofs.write_rules.Reads as reads
@@ -10,34 +11,27 @@ use Rattle.application.proofs.apply_rules.Reads as apply-rules-reads
 use Rattle.sentences.proofs.copy.Reads as copy-reads
 use Rattle.sentences.proofs.count_changes.Reads as count-changes-reads
 
--- src/lib.rt:155:5
 copy-requires : tie.Need-copy-requires
 copy-requires c κs = search needs
 
--- src/lib.rt:156:30
 slice-relend-prefix-apply-rules : tie.Need-slice-relend-prefix-apply-rules
 slice-relend-prefix-apply-rules c = search needs
 
--- src/lib.rt:156:30
 slice-aggregate-apply-rules : tie.Need-slice-aggregate-apply-rules
 slice-aggregate-apply-rules c =
     let a = c .before .before .before .before .before .before .before .args in
     let o = c .before .before .before .copy in
     front-long (a .sentence .now) (a .out .now) (o .last .1 .0) (o .last .1 .0) (o .ensures)
 
--- src/lib.rt:156:45
 slice-aggregate-apply-rules-2 : tie.Need-slice-aggregate-apply-rules-2
 slice-aggregate-apply-rules-2 c = search needs
 
--- src/lib.rt:156:5
 apply-rules-requires : tie.Need-apply-rules-requires
 apply-rules-requires c κs = search needs
 
--- src/lib.rt:157:40
 slice-reshare-prefix-count-changes : tie.Need-slice-reshare-prefix-count-changes
 slice-reshare-prefix-count-changes c = search needs
 
--- src/lib.rt:157:40
 slice-aggregate-count-changes : tie.Need-slice-aggregate-count-changes
 slice-aggregate-count-changes c =
     let a = c .before .before .before .before .before .before .before .before .before .before .before .before .before .args in
@@ -45,7 +39,6 @@ slice-aggregate-count-changes c =
     let x = c .before .before .before .before .apply-rules in
     made-long (a .sentence .now) (a .out .now) (o .last .1 .0) (x .last .0) (o .ensures) (x .kept .0)
 
--- src/lib.rt:157:5
 count-changes-requires : tie.Need-count-changes-requires
 count-changes-requires c κs =
     let a = c .before .before .before .before .before .before .before .before .before .before .before .before .before .args in
@@ -53,11 +46,9 @@ count-changes-requires c κs =
     let x = c .before .before .before .before .apply-rules in
     made-long (a .sentence .now) (a .out .now) (o .last .1 .0) (x .last .0) (o .ensures) (x .kept .0)
 
--- src/lib.rt:141:1
 same-length : tie.Need-same-length
 same-length c = search needs
 
--- src/lib.rt:141:1
 returns : tie.Need-returns
 returns c =
     let a = c .before .before .before .before .before .before .before .before .before .before .before .before .before .before .args in
