@@ -101,23 +101,6 @@ static uint64_t differences(const uint8_t *a, const uint8_t *b, size_t n)
     return count;
 }
 
-/* Where rules is not null, a rule's number goes there beside its new tag. */
-static inline void apply_rules(const struct book *b, uint8_t *out, uint8_t *rules, size_t n)
-{
-    for (int i = 0; i < b->rules; i++) {
-        size_t length = b->length[i];
-        for (size_t at = 0; at + length <= n; at++)
-            if (out[at] == b->pattern[i][0] && memcmp(out + at, b->pattern[i], length) == 0) {
-                out[at + b->place[i]] = b->new_tag[i];
-                if (rules != NULL)
-                    rules[at + b->place[i]] = (uint8_t)(i + 1);
-                if (!b->everywhere[i])
-                    break;
-                at += length - 1;
-            }
-    }
-}
-
 uint64_t plain_run_book(const uint8_t *book, size_t book_len, const uint8_t *s, size_t n, uint8_t *out, size_t out_len)
 {
     struct book b;
@@ -131,7 +114,16 @@ uint64_t plain_run_book(const uint8_t *book, size_t book_len, const uint8_t *s, 
         return (uint64_t)refusal;
     if (n > 0)
         memcpy(out, s, n);
-    apply_rules(&b, out, NULL, n);
+    for (int i = 0; i < b.rules; i++) {
+        size_t length = b.length[i];
+        for (size_t at = 0; at + length <= n; at++)
+            if (out[at] == b.pattern[i][0] && memcmp(out + at, b.pattern[i], length) == 0) {
+                out[at + b.place[i]] = b.new_tag[i];
+                if (!b.everywhere[i])
+                    break;
+                at += length - 1;
+            }
+    }
     return differences(s, out, n) * 256;
 }
 
@@ -145,6 +137,22 @@ static int bad_end(const struct book *b, uint8_t end)
         if (memchr(b->pattern[i], end, b->length[i] - 1u) != NULL || b->pattern[i][b->place[i]] == end || b->new_tag[i] == end)
             return 14;
     return 0;
+}
+
+/* The rules to one piece, as in plain_run_book, whose loop stays as it is, so that times can be compared from one delivery to the next. */
+static void apply_rules(const struct book *b, uint8_t *out, uint8_t *rules, size_t n)
+{
+    for (int i = 0; i < b->rules; i++) {
+        size_t length = b->length[i];
+        for (size_t at = 0; at + length <= n; at++)
+            if (out[at] == b->pattern[i][0] && memcmp(out + at, b->pattern[i], length) == 0) {
+                out[at + b->place[i]] = b->new_tag[i];
+                rules[at + b->place[i]] = (uint8_t)(i + 1);
+                if (!b->everywhere[i])
+                    break;
+                at += length - 1;
+            }
+    }
 }
 
 uint64_t plain_run_book_rules(const uint8_t *book, size_t book_len, uint8_t end, const uint8_t *s, size_t n, uint8_t *out,

@@ -19,6 +19,27 @@ ghost use Rattle.traces.specs.Trace.{beside, traceFrom, numbersOf};
 ghost use Rattle.traces.specs.Note.{Room};
 ghost use Rattle.application.specs.Pieces.{FirstPiece};
 
+// The first m rules of the arrays, applied to s in order, and their numbers.
+pub fn apply_rules(
+    s: &mut [u8],
+    v: &mut [u8],
+    rows: &[[u8; PATTERN]; RULES],
+    lengths: &[usize; RULES],
+    heads: &[[u8; HEAD]; RULES],
+    m: usize,
+)
+    requires { ⌜ Usable m (arrays rows lengths heads) × Room (length (now s)) (now v) ⌝ }
+    ensures s { λ _. ⌜ now (s .exit) ≡ applyAll (rulesOf (arrays (rows .entry) (lengths .entry) (heads .entry)) m) (now (s .entry)) ⌝ }
+    ensures v { λ _. ⌜ now (v .exit) ≡ traceFrom 1 (rulesOf (arrays (rows .entry) (lengths .entry) (heads .entry)) m) (beside (now (s .entry)) (now (v .entry))) .numbers ⌝ }
+{
+    let mut i = 0;
+    while i < m {
+        let rule = books::rule_at(rows, lengths, heads, i);
+        i += 1;
+        rewriting::apply_rule(s, v, rule, i as u8);
+    }
+}
+
 // 0 in every place.
 fn clear(v: &mut [u8])
     ensures { λ _. ⌜ now (v .exit) ≡ replicate (length (now (v .entry))) 0 ⌝ }
@@ -30,8 +51,8 @@ fn clear(v: &mut [u8])
     }
 }
 
-// The first m rules of the arrays, applied to s in order, and their numbers.
-pub fn apply_rules(
+// The same as apply_rules, where no tag has a number at first.
+fn apply_afresh(
     s: &mut [u8],
     v: &mut [u8],
     rows: &[[u8; PATTERN]; RULES],
@@ -44,12 +65,7 @@ pub fn apply_rules(
     ensures v { λ _. ⌜ now (v .exit) ≡ traceFrom 1 (rulesOf (arrays (rows .entry) (lengths .entry) (heads .entry)) m) (beside (now (s .entry)) (replicate (length (now (v .entry))) 0)) .numbers ⌝ }
 {
     clear(v);
-    let mut i = 0;
-    while i < m {
-        let rule = books::rule_at(rows, lengths, heads, i);
-        i += 1;
-        rewriting::apply_rule(s, v, rule, i as u8);
-    }
+    apply_rules(s, v, rows, lengths, heads, m);
 }
 
 // How long the first piece is: up to an end tag with it, or all.
@@ -83,7 +99,7 @@ fn apply_first(
 {
     let n = first_piece(s, end);
     let noted = lesser(n, v.len());
-    apply_rules(&mut s[..n], &mut v[..noted], rows, lengths, heads, m);
+    apply_afresh(&mut s[..n], &mut v[..noted], rows, lengths, heads, m);
     n
 }
 
@@ -133,7 +149,7 @@ pub fn apply_book(
     ensures v { λ _. ⌜ (length (now (v .entry)) ≡ length (now (s .entry)) → now (v .exit) ≡ piecewise end (numbersOf (rulesOf (arrays (rows .entry) (lengths .entry) (heads .entry)) m)) (now (s .entry))) ⌝ }
 {
     if end == NO_END {
-        apply_rules(s, v, rows, lengths, heads, m);
+        apply_afresh(s, v, rows, lengths, heads, m);
     } else {
         apply_pieces(s, v, end, rows, lengths, heads, m);
     }

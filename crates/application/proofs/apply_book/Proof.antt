@@ -12,10 +12,10 @@ use Rattle.application.proofs.apply_book.Tie as tie
 use Rattle.application.proofs.apply_book.Reads as reads
 use Rattle.application.proofs.apply_book.Lts as lts
 use Rattle.application.proofs.apply_pieces.Reads as apply-pieces-reads
-use Rattle.application.proofs.apply_rules.Reads as apply-rules-reads
+use Rattle.application.proofs.apply_afresh.Reads as apply-afresh-reads
 
-apply-rules-requires : tie.Need-apply-rules-requires
-apply-rules-requires c κs = search needs
+apply-afresh-requires : tie.Need-apply-afresh-requires
+apply-afresh-requires c κs = search needs
 
 apply-pieces-requires : tie.Need-apply-pieces-requires
 apply-pieces-requires c κs = search needs
@@ -30,7 +30,7 @@ returns : tie.Need-returns
 returns c =
     let st = c .before .before .before .before .before .before .before .before .before .before in
     let a = st .args in
-    let x = c .before .before .before .before .apply-rules in
+    let x = c .before .before .before .before .apply-afresh in
     let none = c .before .before .before .before .before .before .before .if1 .taken in
     let rs = rulesOf (holding (a .rows .now) (a .lengths .now) (a .heads .now)) (a .m) in (
       x .ensures .0 ∙ one-piece (a .end) (applyAll rs) (a .s .now) none (st .pre .1),
@@ -50,7 +50,7 @@ pub apply-book-spec : {M : Type 1} → statement M
 apply-book-spec =
     tie.close
     (tie.spec
-    apply-rules-requires
+    apply-afresh-requires
     apply-pieces-requires
     same-length
     same-length-2

@@ -17,7 +17,7 @@ use Rattle.application.proofs.apply_first.Statement.{statement}
 use Rattle.application.proofs.apply_first.Tie as tie
 use Rattle.application.proofs.apply_first.Reads as reads
 use Rattle.application.proofs.apply_first.Lts as lts
-use Rattle.application.proofs.apply_rules.Reads as apply-rules-reads
+use Rattle.application.proofs.apply_afresh.Reads as apply-afresh-reads
 use Rattle.application.proofs.first_piece.Reads as first-piece-reads
 use Rattle.words.proofs.lesser.Reads as lesser-reads
 
@@ -27,24 +27,24 @@ first-piece-requires c κs = search needs
 lesser-requires : tie.Need-lesser-requires
 lesser-requires c κs = search needs
 
-slice-relend-prefix-apply-rules : tie.Need-slice-relend-prefix-apply-rules
-slice-relend-prefix-apply-rules c = omega (arith, c .before .first-piece .ensures .inside)
+slice-relend-prefix-apply-afresh : tie.Need-slice-relend-prefix-apply-afresh
+slice-relend-prefix-apply-afresh c = omega (arith, c .before .first-piece .ensures .inside)
 
-slice-aggregate-apply-rules : tie.Need-slice-aggregate-apply-rules
-slice-aggregate-apply-rules c =
+slice-aggregate-apply-afresh : tie.Need-slice-aggregate-apply-afresh
+slice-aggregate-apply-afresh c =
     let p = c .before .before .first-piece in
     sym (length-take-le (p .result) (c .before .before .before .before .before .before .args .s .now) (p .ensures .inside))
 
-slice-relend-prefix-apply-rules-2 : tie.Need-slice-relend-prefix-apply-rules-2
-slice-relend-prefix-apply-rules-2 c = omega (arith, c .before .lesser .ensures)
+slice-relend-prefix-apply-afresh-2 : tie.Need-slice-relend-prefix-apply-afresh-2
+slice-relend-prefix-apply-afresh-2 c = omega (arith, c .before .lesser .ensures)
 
-slice-aggregate-apply-rules-2 : tie.Need-slice-aggregate-apply-rules-2
-slice-aggregate-apply-rules-2 c =
+slice-aggregate-apply-afresh-2 : tie.Need-slice-aggregate-apply-afresh-2
+slice-aggregate-apply-afresh-2 c =
     let l = c .before .before .lesser in
     sym (length-take-le (l .result) (c .before .before .before .before .before .before .before .args .v .now) (omega (arith, l .ensures)))
 
-apply-rules-requires : tie.Need-apply-rules-requires
-apply-rules-requires c κs =
+apply-afresh-requires : tie.Need-apply-afresh-requires
+apply-afresh-requires c κs =
     let st = c .before .before .before .before .before .before .before in
     let l = c .before .before .lesser in
     let p = c .before .before .before .first-piece in
@@ -58,7 +58,7 @@ same-length-2 c = search needs
 
 returns : tie.Need-returns
 returns c =
-    let x = c .before .before .before .before .apply-rules in
+    let x = c .before .before .before .before .apply-afresh in
     let l = c .before .before .before .before .before .before .before .lesser in
     let p = c .before .before .before .before .before .before .before .before .first-piece in
     let a = c .before .before .before .before .before .before .before .before .before .before .before .before .args in
@@ -78,11 +78,11 @@ apply-first-spec =
     (tie.spec
     first-piece-requires
     lesser-requires
-    slice-relend-prefix-apply-rules
-    slice-aggregate-apply-rules
-    slice-relend-prefix-apply-rules-2
-    slice-aggregate-apply-rules-2
-    apply-rules-requires
+    slice-relend-prefix-apply-afresh
+    slice-aggregate-apply-afresh
+    slice-relend-prefix-apply-afresh-2
+    slice-aggregate-apply-afresh-2
+    apply-afresh-requires
     same-length
     same-length-2
     returns)

@@ -2,8 +2,7 @@
 use Prim.Native.Nat.{ℕ, _+_, _-_, _≤_, _<_}
 use native.Mathlib.Omega.{arith}
 use borrow.Author.Needs.{needs}
-use mathlib.Core.Path.{_≡_, refl, sym, _∙_, ap, ap₂, subst}
-use mathlib.Core.List.{List}
+use mathlib.Core.Path.{_≡_, refl, sym, _∙_, ap, subst}
 use lib.ListN.{length, getD}
 use Rattle.cascades.specs.Rule.{Rule}
 use Rattle.cascades.specs.Rewrite.{applyAll}
@@ -16,7 +15,6 @@ use Rattle.application.proofs.apply_rules.Statement.{statement}
 use Rattle.application.proofs.apply_rules.Tie as tie
 use Rattle.application.proofs.apply_rules.Reads as reads
 use Rattle.application.proofs.apply_rules.Lts as lts
-use Rattle.application.proofs.clear.Reads as clear-reads
 use Rattle.books.proofs.rule_at.Reads as rule-at-reads
 use Rattle.rewriting.proofs.apply_rule.Reads as apply-rule-reads
 
@@ -31,15 +29,12 @@ abbrev μ-loop : tie.MeasureT-loop
 abbrev arrays : tie.Start Inv-loop μ-loop → Arrays
 arrays st = holding (st .args .rows .now) (st .args .lengths .now) (st .args .heads .now)
 
-clear-requires : tie.Need-clear-requires Inv-loop μ-loop
-clear-requires c κs = search needs
-
 loop-holds : tie.Need-loop-holds Inv-loop μ-loop
 loop-holds c = (omega arith, refl, refl, refl, refl)
 
 rule-at-requires : tie.Need-rule-at-requires Inv-loop μ-loop
 rule-at-requires c κs =
-    let st = c .before .before .before .before .before .before .before .before in
+    let st = c .before .before .before .before in
     (st .pre .0 .shaped, omega (arith, st .pre .0 .few))
 
 add-i : tie.Need-add-i Inv-loop μ-loop
@@ -48,7 +43,7 @@ add-i c = search needs
 -- the rule that was read
 module _ (c : tie.After-rule-at Inv-loop μ-loop) where
   abbrev st : tie.Start Inv-loop μ-loop
-  st = c .before .before .before .before .before .before .before .before .before
+  st = c .before .before .before .before .before
 
   abbrev i : ℕ
   i = c .before .before .loop .i
@@ -60,10 +55,7 @@ module _ (c : tie.After-rule-at Inv-loop μ-loop) where
   rule-new = subst (λ (r : Rule). getD (r .pattern) (r .place) 0 ≡ r .tag → ⊥) (sym (c .rule-at .ensures .0)) (st .pre .0 .new i (omega arith))
 
   room : 0 < length (c .before .before .loop .v) → length (c .before .before .loop .s) ≤ length (c .before .before .loop .v)
-  room h =
-      let l = c .before .before .loop in
-      let cleared = c .before .before .before .before .before .clear .kept .0 in
-      omega (arith, l .inv .1, l .inv .3, cleared, st .pre .1 (omega (arith, h, l .inv .3, cleared)))
+  room h = let l = c .before .before .loop in omega (arith, l .inv .1, l .inv .3, st .pre .1 (omega (arith, h, l .inv .3)))
 
 cast-apply-rule : tie.Need-cast-apply-rule Inv-loop μ-loop
 cast-apply-rule c = omega (arith, number-small (c .before .before))
@@ -96,15 +88,15 @@ same-length : tie.Need-same-length Inv-loop μ-loop
 same-length c = search needs
 
 same-length-2 : tie.Need-same-length-2 Inv-loop μ-loop
-same-length-2 c = c .before .loop .inv .3 ∙ c .before .before .before .before .clear .kept .0
+same-length-2 c = search needs
 
 returns : tie.Need-returns Inv-loop μ-loop
 returns c =
-    let st = c .before .before .before .before .before .before .before .before in
+    let st = c .before .before .before .before in
     let l = c .before .loop in
     let e : l .i ≡ st .args .m = omega arith in (
       l .inv .2 ∙ ap (λ (n : ℕ). applyAll (rulesOf (arrays st) n) (st .args .s .now)) e,
-      l .inv .4 ∙ ap₂ (λ (n : ℕ) (z : List ℕ). traceFrom 1 (rulesOf (arrays st) n) (beside (st .args .s .now) z) .numbers) e (c .before .before .before .before .clear .ensures),
+      l .inv .4 ∙ ap (λ (n : ℕ). traceFrom 1 (rulesOf (arrays st) n) (beside (st .args .s .now) (st .args .v .now)) .numbers) e,
     )
 
 pub apply-rules-spec : {M : Type 1} → statement M
@@ -113,7 +105,6 @@ apply-rules-spec =
     (tie.spec
     Inv-loop
     μ-loop
-    clear-requires
     loop-holds
     rule-at-requires
     add-i
