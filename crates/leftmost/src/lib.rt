@@ -5,47 +5,42 @@ use places::WIDE;
 use words::lesser;
 ghost use Prim.Native.Nat.{_+_, _≤_, _<_};
 ghost use lib.ListN.{length, drop};
-ghost use Rattle.places.specs.Places.{Places, FoundWithin};
+ghost use Rattle.places.specs.Places.{Places, Free, FoundWithin};
 ghost use Rattle.leftmost.specs.Leftmost.{Found};
 
-// With fewer places than these, going place by place is quicker.
-const SHORT: usize = 64;
-
-// The first of 32 places from `from` on at which u begins. It looks place by place only in a half where u may begin.
-fn seek_wide(s: &[u8], from: usize, u: &[u8]) -> Occurrence
-    requires { ⌜ Places (now u) (now s) from (from + 32) ⌝ }
-    ensures { λ r. ⌜ FoundWithin (now (u .entry)) (now (s .entry)) from (from + 32) r ⌝ }
+// How far a search may go from `from` on, up to `to`, past blocks of 32 places at none of which u begins.
+fn pass(s: &[u8], from: usize, to: usize, u: &[u8]) -> usize
+    requires { ⌜ Places (now u) (now s) from to ⌝ }
+    ensures { λ r. ⌜ (from ≤ r) × (r ≤ to) × Free (now (u .entry)) (now (s .entry)) from r ⌝ }
 {
     let mut i = from;
-    while i < from + WIDE {
-        if places::may_begin_close(s, i, u) {
-            let found = places::seek(s, i, i + BLOCK, u);
-            if let Occurrence::At(at) = found {
-                return Occurrence::At(at);
-            }
+    while i + WIDE <= to {
+        if places::may_begin(s, i, u) {
+            return i;
         }
-        i += BLOCK;
+        i += WIDE;
     }
-    Occurrence::Nowhere
+    i
 }
 
-// The first place from `from` up to `to` at which u begins. It looks closer only in blocks of 32 places where u may begin; the last block may
-// overlap the one before it.
+// The first place from `from` up to `to` at which u begins. It looks closer only at 16 places where it cannot pass, and place by place only if u
+// may begin there; the last block may overlap the one before it.
 fn sweep(s: &[u8], from: usize, to: usize, u: &[u8]) -> Occurrence
     requires { ⌜ Places (now u) (now s) from to ⌝ }
-    requires { ⌜ from + 32 ≤ to ⌝ }
+    requires { ⌜ from + 16 ≤ to ⌝ }
     ensures { λ r. ⌜ FoundWithin (now (u .entry)) (now (s .entry)) from to r ⌝ }
 {
     let mut i = from;
     while i < to {
-        let block = lesser(i, to - WIDE);
-        if places::may_begin(s, block, u) {
-            let found = seek_wide(s, block, u);
+        let passed = pass(s, i, to, u);
+        let block = lesser(passed, to - BLOCK);
+        if places::may_begin_close(s, block, u) {
+            let found = places::seek(s, block, block + BLOCK, u);
             if let Occurrence::At(at) = found {
                 return Occurrence::At(at);
             }
         }
-        i += WIDE;
+        i = passed + BLOCK;
     }
     Occurrence::Nowhere
 }
@@ -69,18 +64,19 @@ fn seek_front(s: &[u8], from: usize, to: usize, u: &[u8]) -> Occurrence
     places::seek(s, i, to, u)
 }
 
-// The same. Where there are many places, it looks at the first one before all others: behind a match the next often begins there.
+// The same. Fewer places than a block has are looked at one by one. Of others the first one is tried before all: behind a match the next often
+// begins there.
 fn search(s: &[u8], from: usize, to: usize, u: &[u8]) -> Occurrence
     requires { ⌜ Places (now u) (now s) from to ⌝ }
     ensures { λ r. ⌜ FoundWithin (now (u .entry)) (now (s .entry)) from to r ⌝ }
 {
-    if to - from < SHORT {
+    if to - from < BLOCK {
         return seek_front(s, from, to, u);
     }
     if places::begins(s, from, u) {
         return Occurrence::At(from);
     }
-    sweep(s, from + 1, to, u)
+    sweep(s, from, to, u)
 }
 
 // The least place at which u begins in the part of s from `from` on, counted in the part; or nowhere.

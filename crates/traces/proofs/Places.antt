@@ -29,7 +29,7 @@ module _ (f : List ℕ → List ℕ) (long : (p : List ℕ) → length (f p) ≡
   piecewise-long e w = each-long (pieces e w) ∙ ap length (piecewise-same e w)
 
   -- what it makes of a place is what it makes of it in its piece
-  pub piecewise-at : (e : ℕ) (w : List ℕ) (q : ℕ) (i : InPiece e w q) → getD (piecewise e f w) q 0 ≡ getD (f (i .piece)) (i .place) 0
+  pub piecewise-at : (e : ℕ) (w : List ℕ) (q : ℕ) (i : InPiece (pieces e w) q) → getD (piecewise e f w) q 0 ≡ getD (f (i .piece)) (i .place) 0
   piecewise-at e w q i =
       let x = f (i .piece) in
       let there : q ≡ length (each f (i .before)) + i .place = omega (arith, i .is, each-long (i .before)) in
@@ -37,21 +37,12 @@ module _ (f : List ℕ → List ℕ) (long : (p : List ℕ) → length (f p) ≡
       ∙ getD-append-add (each f (i .before)) (x ++ each f (i .behind)) (i .place) 0
       ∙ List·getD-append x (each f (i .behind)) 0 (i .place) (omega (arith, i .inside, long (i .piece)))
 
--- every place of a sentence is one of a piece
-record Split (ps : List (List ℕ)) (q : ℕ) : Type 0 where
-  before : List (List ℕ)
-  piece : List ℕ
-  behind : List (List ℕ)
-  place : ℕ
-  cut : ps ≡ before ++ (piece ∷ behind)
-  inside : place < length piece
-  is : q ≡ length (each (λ p. p) before) + place
-
-split : (ps : List (List ℕ)) (q : ℕ) → q < length (each (λ p. p) ps) → Split ps q
+-- every place is one of a piece
+split : (ps : List (List ℕ)) (q : ℕ) → q < length (each (λ p. p) ps) → InPiece ps q
 split [] q h = absurd (omega arith)
 split (p ∷ ps) q h = by (decLt q (length p)) (split ps (q - length p))
   where
-    by : Dec (q < length p) → (q - length p < length (each (λ x. x) ps) → Split ps (q - length p)) → Split (p ∷ ps) q
+    by : Dec (q < length p) → (q - length p < length (each (λ x. x) ps) → InPiece ps (q - length p)) → InPiece (p ∷ ps) q
     by (yes l) rest = record { before = []; piece = p; behind = ps; place = q; cut = refl; inside = l; is = omega arith }
     by (no n) rest =
         let s = rest (omega (arith, n, h, length-append p (each (λ x. x) ps))) in
@@ -65,7 +56,5 @@ split (p ∷ ps) q h = by (decLt q (length p)) (split ps (q - length p))
           is = omega (arith, n, s .is, length-append p (each (λ x. x) (s .before)));
         }
 
-pub in-piece : (e : ℕ) (w : List ℕ) (q : ℕ) → q < length w → InPiece e w q
-in-piece e w q h =
-    let s = split (pieces e w) q (subst (λ (x : List ℕ). q < length x) (sym (piecewise-same e w)) h) in
-    record { before = s .before; piece = s .piece; behind = s .behind; place = s .place; cut = s .cut; inside = s .inside; is = s .is }
+pub in-piece : (e : ℕ) (w : List ℕ) (q : ℕ) → q < length w → InPiece (pieces e w) q
+in-piece e w q h = split (pieces e w) q (subst (λ (x : List ℕ). q < length x) (sym (piecewise-same e w)) h)

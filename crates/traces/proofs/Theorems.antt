@@ -191,13 +191,13 @@ traced-long c w = piecewise-long (numbersOf (c .rules)) (numbers-long (c .rules)
 module _ (l : ℕ) (c : Cascade) (ok : ValidCascade l c) (w : List ℕ) where
   module _ (q : ℕ) where
     -- the number at a place is that of the last rule that rewrote it, in its piece
-    last-rule : (i : InPiece (c .end) w q) → LastRule (c .rules) (i .piece) (i .place) (getD (traced c w .numbers) q 0)
+    last-rule : (i : InPiece (pieces (c .end) w) q) → LastRule (c .rules) (i .piece) (i .place) (getD (traced c w .numbers) q 0)
     last-rule i =
         subst (LastRule (c .rules) (i .piece) (i .place)) (sym (piecewise-at (numbersOf (c .rules)) (numbers-long (c .rules)) (c .end) w q i))
         (last-in-piece l (c .tags) (i .place) (c .rules) ok (i .piece) (i .inside))
 
     -- and the tag there is what it was behind that rule
-    tag-there : (i : InPiece (c .end) w q) → getD (behavior c w) q 0 ≡ tagBehind (c .rules) (i .piece) (i .place) (getD (traced c w .numbers) q 0)
+    tag-there : (i : InPiece (pieces (c .end) w) q) → getD (behavior c w) q 0 ≡ tagBehind (c .rules) (i .piece) (i .place) (getD (traced c w .numbers) q 0)
     tag-there i = piecewise-at (applyAll (c .rules)) (applyAll-long (c .rules)) (c .end) w q i ∙ result-tag (c .rules) (i .piece) (i .place) (getD (traced c w .numbers) q 0) (last-rule i)
 
     module _ (h : q < length w) where

@@ -17,20 +17,20 @@ pub record LastRule (rs : List Rule) (w : List ℕ) (q n : ℕ) : Type 0 where
   pub rewrote : (i : ℕ) → n ≡ suc i → tagBehind rs w q i ≡ tagBehind rs w q n → ⊥
   pub kept : (i : ℕ) → n ≤ i → tagBehind rs w q (suc i) ≡ tagBehind rs w q i
 
--- place q of w is a place of one of its pieces
-pub record InPiece (e : ℕ) (w : List ℕ) (q : ℕ) : Type 0 where
+-- place q of the pieces ps, joined, is a place of one of them
+pub record InPiece (ps : List (List ℕ)) (q : ℕ) : Type 0 where
   pub before : List (List ℕ)
   pub piece : List ℕ
   pub behind : List (List ℕ)
   pub place : ℕ
-  pub cut : pieces e w ≡ before ++ (piece ∷ behind)
+  pub cut : ps ≡ before ++ (piece ∷ behind)
   pub inside : place < length piece
   pub is : q ≡ length (each (λ p. p) before) + place
 
 -- what the number and the tag at place q tell that a run has left there
 pub record Told (c : Cascade) (sentence : List ℕ) (q tag number : ℕ) : Type 0 where
   -- the number is that of the last rule that rewrote the place, in its piece
-  pub last : (i : InPiece (c .end) sentence q) → LastRule (c .rules) (i .piece) (i .place) number
+  pub last : (i : InPiece (pieces (c .end) sentence) q) → LastRule (c .rules) (i .piece) (i .place) number
   -- a place without a number has the sentence's tag
   pub same : number ≡ 0 → tag ≡ getD sentence q 0
   -- a place whose tag differs from the sentence's has a number

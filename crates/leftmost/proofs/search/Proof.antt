@@ -1,8 +1,7 @@
 -- `leftmost::search` meets its contract.
-use Prim.Native.Nat.{_+_}
 use native.Mathlib.Omega.{arith}
 use mathlib.Core.Path.{sym, _∙_}
-use Rattle.places.proofs.Places.{all-none, all-more, found-then}
+use Rattle.places.proofs.Places.{all-none}
 use borrow.Author.Needs.{needs}
 use Rattle.leftmost.proofs.search.Statement.{statement}
 use Rattle.leftmost.proofs.search.Tie as tie
@@ -34,17 +33,11 @@ returns-2 c =
       passed = all-none _ (a .from) (a .from) (omega arith);
     }
 
-add-sweep : tie.Need-add-sweep
-add-sweep c = search needs
-
 sweep-requires : tie.Need-sweep-requires
 sweep-requires c κs = search needs
 
 returns-3 : tie.Need-returns-3
-returns-3 c =
-    let a = c .before .before .before .before .before .before .args in
-    let none = all-more _ (a .from) (a .from) (all-none _ (a .from) (a .from) (omega arith)) (sym (c .before .before .begins .ensures) ∙ c .before .if2 .left) in
-    found-then (a .u .now) (a .s .now) (a .from) (a .from + 1) (omega arith) none (a .to) (c .sweep .result) (c .sweep .ensures)
+returns-3 c = c .sweep .ensures
 
 pub search-spec : {M : Type 1} → statement M
 search-spec =
@@ -55,6 +48,5 @@ search-spec =
     returns
     begins-requires
     returns-2
-    add-sweep
     sweep-requires
     returns-3)
