@@ -1,10 +1,10 @@
 -- A book's rules one by one, and their numbers.
-use Prim.Native.Nat.{ℕ, _+_, _-_, _≤_, _<_, min}
+use Prim.Native.Nat.{ℕ, _+_, _≤_, min}
 use native.Mathlib.Omega.{arith}
 use native.Mathlib.Numerals.{add-one}
 use mathlib.Core.Path.{_≡_, sym, ap, ap₂, _∙_}
 use mathlib.Core.List.{List, [], _∷_, _++_, reverse-cons}
-use lib.ListN.{length, take, drop, replicate, length-take, length-drop}
+use lib.ListN.{length, take, drop, replicate}
 use lib.Seq.{length-take-le}
 use Rattle.cascades.specs.Rule.{Rule}
 use Rattle.cascades.specs.Rewrite.{apply, applyAll}
@@ -12,7 +12,6 @@ use Rattle.cascades.proofs.Rewrite.{applyAll-append}
 use Rattle.books.specs.Arrays.{Arrays, ruleAt, rulesDown, rulesOf}
 use Rattle.books.proofs.Held.{rules-long}
 use Rattle.traces.specs.Trace.{Traced, beside, mark, traceFrom, numbersOf}
-use Rattle.traces.specs.Note.{Room}
 use Rattle.traces.proofs.Theorems.{traceFrom-tags, trace-snoc}
 
 module _ (a : Arrays) (i : ℕ) (r : Rule) (is : r ≡ ruleAt a i) where
@@ -33,19 +32,6 @@ module _ (a : Arrays) (i : ℕ) (r : Rule) (is : r ≡ ruleAt a i) where
       ap₂ (λ (y : List ℕ) (j : ℕ). mark (length y) r j y v) tags counted ∙ ap (mark (length (so-far .tags)) r (1 + length (rulesOf a i)) (so-far .tags)) f
       ∙ ap (λ (t : Traced). t .numbers) (sym (trace-snoc 1 (rulesOf a i) r (beside w z)))
       ∙ ap (λ (rs : List Rule). traceFrom 1 rs (beside w z) .numbers) (sym one-more)
-
--- as much room for the numbers of a part, and for those of the rest
-module _ (s v : List ℕ) (r n : ℕ) (inside : r ≤ length s) (lesser : n ≡ min r (length v)) (room : Room (length s) v) where
-  pub part-room : Room (length (take r s)) (take n v)
-  part-room h =
-      let some : 0 < length v = omega (arith, h, length-take n v) in
-      omega (arith, length-take r s, length-take n v, lesser, inside, room some)
-
-  pub rest-room : Room (length (take (length s - r) (drop r s))) (take (length v - n) (drop n v))
-  rest-room h =
-      let front = length-take (length v - n) (drop n v) in
-      let some : 0 < length v = omega (arith, h, front) in
-      omega (arith, h, front, length-drop n v, length-take (length s - r) (drop r s), length-drop r s, lesser, inside, room some)
 
 -- the numbers of a part of a sentence, where they have as much room as the sentence has tags
 pub numbers-there : (rs : List Rule) (s v x : List ℕ) (r n : ℕ) → r ≤ length s → length s ≤ length v → n ≡ min r (length v)

@@ -16,7 +16,6 @@ ghost use Rattle.cascades.specs.Rewrite.{applyAll};
 ghost use Rattle.books.specs.Arrays.{arrays, rulesOf};
 ghost use Rattle.endings.specs.Usable.{Usable};
 ghost use Rattle.traces.specs.Trace.{beside, traceFrom, numbersOf};
-ghost use Rattle.traces.specs.Note.{Room};
 ghost use Rattle.application.specs.Pieces.{FirstPiece};
 
 // The first m rules of the arrays, applied to s in order, and their numbers.
@@ -28,7 +27,7 @@ pub fn apply_rules(
     heads: &[[u8; HEAD]; RULES],
     m: usize,
 )
-    requires { ⌜ Usable m (arrays rows lengths heads) × Room (length (now s)) (now v) ⌝ }
+    requires { ⌜ Usable m (arrays rows lengths heads) ⌝ }
     ensures s { λ _. ⌜ now (s .exit) ≡ applyAll (rulesOf (arrays (rows .entry) (lengths .entry) (heads .entry)) m) (now (s .entry)) ⌝ }
     ensures v { λ _. ⌜ now (v .exit) ≡ traceFrom 1 (rulesOf (arrays (rows .entry) (lengths .entry) (heads .entry)) m) (beside (now (s .entry)) (now (v .entry))) .numbers ⌝ }
 {
@@ -60,7 +59,7 @@ fn apply_afresh(
     heads: &[[u8; HEAD]; RULES],
     m: usize,
 )
-    requires { ⌜ Usable m (arrays rows lengths heads) × Room (length (now s)) (now v) ⌝ }
+    requires { ⌜ Usable m (arrays rows lengths heads) ⌝ }
     ensures s { λ _. ⌜ now (s .exit) ≡ applyAll (rulesOf (arrays (rows .entry) (lengths .entry) (heads .entry)) m) (now (s .entry)) ⌝ }
     ensures v { λ _. ⌜ now (v .exit) ≡ traceFrom 1 (rulesOf (arrays (rows .entry) (lengths .entry) (heads .entry)) m) (beside (now (s .entry)) (replicate (length (now (v .entry))) 0)) .numbers ⌝ }
 {
@@ -92,7 +91,7 @@ fn apply_first(
     heads: &[[u8; HEAD]; RULES],
     m: usize,
 ) -> usize
-    requires { ⌜ Usable m (arrays rows lengths heads) × Room (length (now s)) (now v) ⌝ }
+    requires { ⌜ Usable m (arrays rows lengths heads) ⌝ }
     ensures s { λ r. ⌜ Begun (piecewise end (applyAll (rulesOf (arrays (rows .entry) (lengths .entry) (heads .entry)) m))) (piecewise end (applyAll (rulesOf (arrays (rows .entry) (lengths .entry) (heads .entry)) m))) (now (s .entry)) (now (s .exit)) (now (s .exit)) r ⌝ }
     ensures v { λ r. ⌜ (length (now (v .entry)) ≡ length (now (s .entry)) → Begun (piecewise end (numbersOf (rulesOf (arrays (rows .entry) (lengths .entry) (heads .entry)) m))) (piecewise end (numbersOf (rulesOf (arrays (rows .entry) (lengths .entry) (heads .entry)) m))) (now (s .entry)) (now (s .exit)) (now (v .exit)) r) ⌝ }
     ensures some { λ r. ⌜ (0 < length (now (s .entry)) → 0 < r) ⌝ }
@@ -113,7 +112,7 @@ fn apply_pieces(
     heads: &[[u8; HEAD]; RULES],
     m: usize,
 )
-    requires { ⌜ Usable m (arrays rows lengths heads) × Room (length (now s)) (now v) ⌝ }
+    requires { ⌜ Usable m (arrays rows lengths heads) ⌝ }
     ensures s { λ _. ⌜ now (s .exit) ≡ piecewise end (applyAll (rulesOf (arrays (rows .entry) (lengths .entry) (heads .entry)) m)) (now (s .entry)) ⌝ }
     ensures v { λ _. ⌜ (length (now (v .entry)) ≡ length (now (s .entry)) → now (v .exit) ≡ piecewise end (numbersOf (rulesOf (arrays (rows .entry) (lengths .entry) (heads .entry)) m)) (now (s .entry))) ⌝ }
 {
@@ -143,7 +142,7 @@ pub fn apply_book(
     heads: &[[u8; HEAD]; RULES],
     m: usize,
 )
-    requires { ⌜ Usable m (arrays rows lengths heads) × Room (length (now s)) (now v) ⌝ }
+    requires { ⌜ Usable m (arrays rows lengths heads) ⌝ }
     requires { ⌜ Below no-end (now s) ⌝ }
     ensures s { λ _. ⌜ now (s .exit) ≡ piecewise end (applyAll (rulesOf (arrays (rows .entry) (lengths .entry) (heads .entry)) m)) (now (s .entry)) ⌝ }
     ensures v { λ _. ⌜ (length (now (v .entry)) ≡ length (now (s .entry)) → now (v .exit) ≡ piecewise end (numbersOf (rulesOf (arrays (rows .entry) (lengths .entry) (heads .entry)) m)) (now (s .entry))) ⌝ }

@@ -20,7 +20,6 @@ ghost use Rattle.cascades.specs.Rewrite.{applyAll};
 ghost use Rattle.books.specs.Arrays.{arrays, rulesOf, cascadeOf};
 ghost use Rattle.endings.specs.Usable.{Usable};
 ghost use Rattle.traces.specs.Trace.{numbersOf};
-ghost use Rattle.traces.specs.Note.{Room};
 ghost use Rattle.sentences.specs.Run.{run, Ran};
 ghost use Rattle.sentences.specs.Parts.{Wrote};
 ghost use Rattle.tagger.specs.Run.{bookRun};
@@ -59,7 +58,7 @@ fn write_pieces(
     heads: &[[u8; HEAD]; RULES],
 ) -> usize
     requires { ⌜ Usable m (arrays rows lengths heads) ⌝ }
-    requires { ⌜ Below no-end (now sentence) × (length (now sentence) ≤ length (now out)) × Room (length (now sentence)) (now v) ⌝ }
+    requires { ⌜ Below no-end (now sentence) × (length (now sentence) ≤ length (now out)) ⌝ }
     ensures out { λ r. ⌜ Wrote (piecewise end (applyAll (rulesOf (arrays (rows .entry) (lengths .entry) (heads .entry)) m)) (now (sentence .entry))) (now (sentence .entry)) (now (out .entry)) (now (out .exit)) r ⌝ }
     ensures v { λ _. ⌜ (length (now (sentence .entry)) ≤ length (now (v .entry)) → now (v .exit) ≡ piecewise end (numbersOf (rulesOf (arrays (rows .entry) (lengths .entry) (heads .entry)) m)) (now (sentence .entry)) ++ drop (length (now (sentence .entry))) (now (v .entry))) ⌝ }
 {
@@ -105,7 +104,7 @@ fn run_pieces(
     heads: &[[u8; HEAD]; RULES],
 ) -> RunAnswer
     requires { ⌜ Usable m (arrays rows lengths heads) ⌝ }
-    requires { ⌜ (k ≤ no-end) × (room ≤ length (now out)) × Room room (now v) ⌝ }
+    requires { ⌜ (k ≤ no-end) × (room ≤ length (now out)) ⌝ }
     ensures out { λ r. ⌜ Ran (cascadeRun end (cascadeOf k (arrays (rows .entry) (lengths .entry) (heads .entry)) m) (now (sentence .entry)) room) (now (sentence .entry)) (now (out .entry)) (now (out .exit)) r ⌝ }
     ensures v { λ _. ⌜ (room ≤ length (now (v .entry)) → now (v .exit) ≡ written (cascadeNumbers end (cascadeOf k (arrays (rows .entry) (lengths .entry) (heads .entry)) m) (now (sentence .entry)) room) (now (v .entry))) ⌝ }
 {
@@ -130,7 +129,7 @@ fn run_into(
     v: &mut [u8],
     room: usize,
 ) -> RunAnswer
-    requires { ⌜ (room ≤ length (now out)) × Room room (now v) ⌝ }
+    requires { ⌜ room ≤ length (now out) ⌝ }
     ensures out { λ r. ⌜ Ran (bookRun (now (book .entry)) end (now (sentence .entry)) room) (now (sentence .entry)) (now (out .entry)) (now (out .exit)) r ⌝ }
     ensures v { λ _. ⌜ (room ≤ length (now (v .entry)) → now (v .exit) ≡ written (bookNumbers (now (book .entry)) end (now (sentence .entry)) room) (now (v .entry))) ⌝ }
 {

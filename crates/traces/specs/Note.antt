@@ -1,13 +1,8 @@
 -- Numbers beside tags.
-use Prim.Native.Nat.{ℕ, _≤_, _<_}
+use Prim.Native.Nat.{ℕ}
 use mathlib.Core.Bool.{true, false}
 use mathlib.Core.List.{List, [], _∷_}
 use lib.Dec.{eqb}
-use lib.ListN.{length}
-
--- v has room for no number, or for those of n tags
-abbrev pub Room : ℕ → List ℕ → Type 0
-Room n v = 0 < length v → n ≤ length v
 
 -- x in v where w and w', which lie beside it, differ
 abbrev pub note : ℕ → List ℕ → List ℕ → List ℕ → List ℕ

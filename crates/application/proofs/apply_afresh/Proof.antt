@@ -1,5 +1,4 @@
 -- `application::apply_afresh` meets its contract.
-use native.Mathlib.Omega.{arith}
 use borrow.Author.Needs.{needs}
 use mathlib.Core.Path.{ap, _∙_}
 use mathlib.Core.List.{List}
@@ -17,10 +16,7 @@ clear-requires : tie.Need-clear-requires
 clear-requires c κs = search needs
 
 apply-rules-requires : tie.Need-apply-rules-requires
-apply-rules-requires c κs =
-    let st = c .before .before .before .before .before .before .before .before in
-    let cleared = c .before .before .before .before .clear in
-    (st .pre .0, λ h. omega (arith, cleared .kept .0, st .pre .1 (omega (arith, h, cleared .kept .0))))
+apply-rules-requires c κs = search needs
 
 same-length : tie.Need-same-length
 same-length c = search needs

@@ -12,7 +12,7 @@ use Rattle.books.specs.Arrays.{holding, rulesOf}
 use Rattle.traces.specs.Trace.{numbersOf}
 use Rattle.traces.proofs.Theorems.{numbers-long}
 use Rattle.application.proofs.Pieces.{begun-piece, begun-numbers}
-use Rattle.application.proofs.Rules.{part-room, numbers-there}
+use Rattle.application.proofs.Rules.{numbers-there}
 use Rattle.application.proofs.apply_first.Statement.{statement}
 use Rattle.application.proofs.apply_first.Tie as tie
 use Rattle.application.proofs.apply_first.Reads as reads
@@ -44,11 +44,7 @@ slice-aggregate-apply-afresh-2 c =
     sym (length-take-le (l .result) (c .before .before .before .before .before .before .before .args .v .now) (omega (arith, l .ensures)))
 
 apply-afresh-requires : tie.Need-apply-afresh-requires
-apply-afresh-requires c κs =
-    let st = c .before .before .before .before .before .before .before in
-    let l = c .before .before .lesser in
-    let p = c .before .before .before .first-piece in
-    (st .pre .0, part-room (st .args .s .now) (st .args .v .now) (p .result) (l .result) (p .ensures .inside) (l .ensures) (st .pre .1))
+apply-afresh-requires c κs = search needs
 
 same-length : tie.Need-same-length
 same-length c = search needs

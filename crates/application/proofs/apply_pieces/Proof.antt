@@ -15,7 +15,6 @@ use Rattle.books.specs.Arrays.{holding, rulesOf}
 use Rattle.traces.specs.Trace.{numbersOf}
 use Rattle.traces.proofs.Theorems.{numbers-long}
 use Rattle.application.proofs.Pieces.{piecewise-nothing}
-use Rattle.application.proofs.Rules.{rest-room}
 use Rattle.application.proofs.apply_pieces.Statement.{statement}
 use Rattle.application.proofs.apply_pieces.Tie as tie
 use Rattle.application.proofs.apply_pieces.Reads as reads
@@ -75,11 +74,7 @@ part-apply-first-end-2 : tie.Need-part-apply-first-end-2 Inv-loop μ-loop
 part-apply-first-end-2 c = search needs
 
 apply-first-requires : tie.Need-apply-first-requires Inv-loop μ-loop
-apply-first-requires c κs =
-    let st = c .before .before .before .before .before .before .before in
-    let l = c .before .before .before .before .loop in
-    let n = c .before .before .lesser in
-    (st .pre .0, rest-room (l .s) (l .v) (l .from) (n .result) (l .inv .0 .inside) (n .ensures) (λ h. omega (arith, l .inv .1, l .inv .0 .long, st .pre .1 (omega (arith, h, l .inv .1)))))
+apply-first-requires c κs = search needs
 
 -- one piece more
 module _ (c : tie.After-apply-first Inv-loop μ-loop) where

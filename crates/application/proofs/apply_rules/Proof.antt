@@ -1,5 +1,5 @@
 -- `application::apply_rules` meets its contract. The loop's invariant: the rules passed have been applied, and their numbers stand beside the tags.
-use Prim.Native.Nat.{ℕ, _+_, _-_, _≤_, _<_}
+use Prim.Native.Nat.{ℕ, _+_, _-_, _≤_}
 use native.Mathlib.Omega.{arith}
 use borrow.Author.Needs.{needs}
 use mathlib.Core.Path.{_≡_, refl, sym, _∙_, ap, subst}
@@ -35,7 +35,7 @@ loop-holds c = (omega arith, refl, refl, refl, refl)
 rule-at-requires : tie.Need-rule-at-requires Inv-loop μ-loop
 rule-at-requires c κs =
     let st = c .before .before .before .before in
-    (st .pre .0 .shaped, omega (arith, st .pre .0 .few))
+    (st .pre .shaped, omega (arith, st .pre .few))
 
 add-i : tie.Need-add-i Inv-loop μ-loop
 add-i c = search needs
@@ -49,13 +49,10 @@ module _ (c : tie.After-rule-at Inv-loop μ-loop) where
   i = c .before .before .loop .i
 
   number-small : i + 1 ≤ 16
-  number-small = omega (arith, st .pre .0 .few)
+  number-small = omega (arith, st .pre .few)
 
   rule-new : getD (ruleOf (c .rule-at .result) .pattern) (ruleOf (c .rule-at .result) .place) 0 ≡ ruleOf (c .rule-at .result) .tag → ⊥
-  rule-new = subst (λ (r : Rule). getD (r .pattern) (r .place) 0 ≡ r .tag → ⊥) (sym (c .rule-at .ensures .0)) (st .pre .0 .new i (omega arith))
-
-  room : 0 < length (c .before .before .loop .v) → length (c .before .before .loop .s) ≤ length (c .before .before .loop .v)
-  room h = let l = c .before .before .loop in omega (arith, l .inv .1, l .inv .3, st .pre .1 (omega (arith, h, l .inv .3)))
+  rule-new = subst (λ (r : Rule). getD (r .pattern) (r .place) 0 ≡ r .tag → ⊥) (sym (c .rule-at .ensures .0)) (st .pre .new i (omega arith))
 
 cast-apply-rule : tie.Need-cast-apply-rule Inv-loop μ-loop
 cast-apply-rule c = omega (arith, number-small (c .before .before))
@@ -65,7 +62,7 @@ apply-rule-requires c κs =
     let p = c .before .before in
     let r = p .rule-at in
     let s = st p in
-    (r .ensures .1, rule-inside (arrays s) (i p) (r .result) (r .ensures .0) (r .ensures .1) (s .pre .0 .shaped) (omega (arith, number-small p)) (s .pre .0 .inside (i p) (omega arith)), rule-new p, λ h. room p h)
+    (r .ensures .1, rule-inside (arrays s) (i p) (r .result) (r .ensures .0) (r .ensures .1) (s .pre .shaped) (omega (arith, number-small p)) (s .pre .inside (i p) (omega arith)), rule-new p)
 
 loop-less : tie.Need-loop-less Inv-loop μ-loop
 loop-less c = search needs

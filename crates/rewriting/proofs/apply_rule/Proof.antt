@@ -27,7 +27,7 @@ slice-aggregate-rewrite c = sym (pattern-long (c .before .before .before .before
 rewrite-requires : tie.Need-rewrite-requires
 rewrite-requires c κs =
     let st = c .before .before .before .before .before .before in
-    (omega (arith, pattern-long st, st .pre .1), st .pre .2, st .pre .3)
+    (omega (arith, pattern-long st, st .pre .1), st .pre .2)
 
 same-length : tie.Need-same-length
 same-length c = search needs

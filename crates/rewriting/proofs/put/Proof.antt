@@ -9,7 +9,7 @@ use Rattle.rewriting.proofs.put.Reads as reads
 use Rattle.rewriting.proofs.put.Lts as lts
 
 slice-write-v : tie.Need-slice-write-v
-slice-write-v c = omega (arith, c .before .pre (omega arith))
+slice-write-v c = search needs
 
 same-length : tie.Need-same-length
 same-length c = search needs

@@ -71,9 +71,6 @@ module _ (c : tie.After-known-told Inv-loop μ-loop) where
       match-noted (kindOf (st .args .everywhere)) (st .args .u .now) (st .args .p) (st .args .tag) (st .pre .0) (st .args .s .now) s from going at found (st .args .x) (st .args .v .now) v (st .pre .1)
       (c .before .before .before .before .before .loop .inv .1)
 
-  numbers-long : length v ≡ length (st .args .v .now)
-  numbers-long = ap length (c .before .before .before .before .before .loop .inv .1 .numbers) ∙ note-long (st .args .x) (st .args .s .now) s (st .args .v .now)
-
 -- behind the number that was put
 module _ (c : tie.After-put Inv-loop μ-loop) where
   abbrev match : tie.After-known-told Inv-loop μ-loop
@@ -124,7 +121,7 @@ slice-write-s : tie.Need-slice-write-s Inv-loop μ-loop
 slice-write-s c = omega (arith, room c)
 
 put-requires : tie.Need-put-requires Inv-loop μ-loop
-put-requires c κs = let m = c .before in λ h. omega (arith, room m, st m .pre .0, going m .long, numbers-long m, st m .pre .2 (omega (arith, h, numbers-long m)))
+put-requires c κs = tt
 
 same-length-3 : tie.Need-same-length-3 Inv-loop μ-loop
 same-length-3 c = let m = match (c .before .before .before) in length-set (s m) _ _ ∙ going m .long

@@ -18,7 +18,7 @@ lesser-requires : tie.Need-lesser-requires
 lesser-requires c κs = search needs
 
 run-into-requires : tie.Need-run-into-requires
-run-into-requires c κs = (omega (arith, c .before .before .lesser .ensures), λ h. omega (arith, c .before .before .lesser .ensures))
+run-into-requires c κs = omega (arith, c .before .before .lesser .ensures)
 
 same-length : tie.Need-same-length
 same-length c = search needs

@@ -42,7 +42,7 @@ run-pieces-requires c κs =
     let w : Whole (st .args .book .now) a (r .result) = subst (λ (x : List ℕ). Whole x a (r .result)) (take-length (st .args .book .now)) (r .ensures) in
     let book = c .before .before .before .before .before .before .got2 .given in (
       applicable (st .args .book .now) a (r .result) w (book .0 .0) (book .0 .1 .0) (book .1),
-      (few-tags (st .args .book .now) a (r .result) w (book .0 .0) (book .0 .1 .0) (book .1), st .pre .0, st .pre .1),
+      (few-tags (st .args .book .now) a (r .result) w (book .0 .0) (book .0 .1 .0) (book .1), st .pre),
     )
 
 returns : tie.Need-returns

@@ -85,7 +85,7 @@ write-pieces-requires c κs =
     run-accepts (s .args .k) (s .args .sentence .now) (s .args .room) (made behavior s) (made behavior s)
     (sym (run-admitted (a .result) told (made behavior s) (a .ensures (made behavior s)) (c .before .before .enum-told .given .1))) .0
     in
-    (s .pre .0, (below-mono (s .args .k) no-end (s .args .sentence .now) (s .pre .1 .0) (ok .below), omega (arith, ok .fits, s .pre .1 .1), λ h. omega (arith, ok .fits, s .pre .1 .2 h)))
+    (s .pre .0, (below-mono (s .args .k) no-end (s .args .sentence .now) (s .pre .1 .0) (ok .below), omega (arith, ok .fits, s .pre .1 .1)))
 
 same-length : tie.Need-same-length
 same-length c = search needs

@@ -1,8 +1,7 @@
 -- `tagger::write_pieces` meets its contract.
 use native.Mathlib.Omega.{arith}
 use borrow.Author.Needs.{needs}
-use mathlib.Core.Path.{sym, ap, subst}
-use lib.ListN.{length, length-take}
+use mathlib.Core.Path.{sym, subst}
 use lib.Seq.{length-take-le}
 use Rattle.limits.specs.Limits.{no-end}
 use Rattle.words.specs.Word.{Below}
@@ -49,9 +48,8 @@ apply-book-requires c κs =
     let st = c .before .before .before .before .before .before .before .before .before .before in
     let a = st .args in
     let o = c .before .before .before .before .copy in
-    let l = c .before .before .before .before .before .before .lesser in
     let whole = front-is (a .sentence .now) (a .out .now) (o .last .1 .0) (o .last .1 .0) (o .ensures) in
-    ((st .pre .0, λ h. omega (arith, ap length whole, length-take (l .result) (a .v .now), l .ensures, h, st .pre .1 .2 (omega (arith, h, length-take (l .result) (a .v .now))))), subst (Below no-end) (sym whole) (st .pre .1 .0))
+    (st .pre .0, subst (Below no-end) (sym whole) (st .pre .1 .0))
 
 slice-reshare-prefix-count-changes : tie.Need-slice-reshare-prefix-count-changes
 slice-reshare-prefix-count-changes c = search needs
