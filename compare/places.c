@@ -21,7 +21,7 @@ struct placed_book {
 static const char *const patterns[PATTERNS] = {"0", "01", "00", "001", "010", "0101", "1101", "00001", "01101", "011010", "111111"};
 
 /* Lengths at and around those where one more block is looked at, and short ones. */
-static const size_t ranges[][2] = {{1, 20}, {63, 70}, {95, 100}, {127, 133}};
+static const size_t ranges[][2] = {{1, 38}, {47, 54}, {63, 70}, {95, 100}, {127, 133}};
 enum { RANGES = sizeof ranges / sizeof *ranges };
 
 static uint8_t sentence[SENTENCE_ROOM], wanted[SENTENCE_ROOM];

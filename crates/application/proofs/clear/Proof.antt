@@ -34,7 +34,7 @@ loop-again : tie.Need-loop-again Inv-loop μ-loop
 loop-again c =
     let l = c .before .loop in
     let a = c .before .before .args in
-    (omega (arith, l .inv .1), length-set (l .v) (l .i) 0 ∙ l .inv .1, ap (λ (x : List ℕ). set x (l .i) 0) (l .inv .2) ∙ fill-more (l .i) 0 (a .v .now) (omega (arith, l .inv .1)))
+    (omega (arith, l .inv .1), length-set (l .v) (l .i) _ ∙ l .inv .1, ap (λ (x : List ℕ). set x (l .i) 0) (l .inv .2) ∙ fill-more (l .i) 0 (a .v .now) (omega (arith, l .inv .1)))
 
 same-length : tie.Need-same-length Inv-loop μ-loop
 same-length c = search needs
