@@ -224,4 +224,4 @@ module _ (l : ℕ) (c : Cascade) (ok : ValidCascade l c) (w : List ℕ) where
 
       -- all that a place tells
       pub told : Told c w q (getD (behavior c w) q 0) (getD (traced c w .numbers) q 0)
-      told = record { last = last-rule; same = unnumbered; some = numbered; new = numbered-tag }
+      told = record { there = in-piece (c .end) w q h; last = last-rule; same = unnumbered; some = numbered; new = numbered-tag }

@@ -29,7 +29,8 @@ pub record InPiece (ps : List (List ℕ)) (q : ℕ) : Type 0 where
 
 -- what the number and the tag at place q tell that a run has left there
 pub record Told (c : Cascade) (sentence : List ℕ) (q tag number : ℕ) : Type 0 where
-  -- the number is that of the last rule that rewrote the place, in its piece
+  -- the place is one of a piece, and the number that of the last rule that rewrote it there
+  pub there : InPiece (pieces (c .end) sentence) q
   pub last : (i : InPiece (pieces (c .end) sentence) q) → LastRule (c .rules) (i .piece) (i .place) number
   -- a place without a number has the sentence's tag
   pub same : number ≡ 0 → tag ≡ getD sentence q 0
