@@ -64,8 +64,8 @@ fn seek_front(s: &[u8], from: usize, to: usize, u: &[u8]) -> Occurrence
     places::seek(s, i, to, u)
 }
 
-// The same. Fewer places than a block has are looked at one by one. Of others the first one is tried before all: behind a match the next often
-// begins there.
+// The same. Fewer places than a block has are left to `seek_front`. Of more the first one is tried before all: behind a match the next often begins
+// there.
 fn search(s: &[u8], from: usize, to: usize, u: &[u8]) -> Occurrence
     requires { ⌜ Places (now u) (now s) from to ⌝ }
     ensures { λ r. ⌜ FoundWithin (now (u .entry)) (now (s .entry)) from to r ⌝ }
