@@ -1,7 +1,7 @@
 -- Demand 3, for every two books, end tags, ceilings and slice lengths. `compileAnswer` is what the call compile answers.
 use Prim.Native.Nat.{ℕ, _≤_, _<_}
 use native.Mathlib.Omega.{arith}
-use mathlib.Core.Path.{_≡_, sym, _∙_, subst}
+use mathlib.Core.Path.{_≡_, sym, ap, _∙_, subst}
 use mathlib.Core.Logic.{_↔_}
 use mathlib.Core.List.{List}
 use borrow.Author.Tests.{le-leb, lt-leb}
@@ -20,8 +20,8 @@ use Rattle.minimal.specs.TableOf.{tableOf}
 use Rattle.tables.specs.Bytes.{encode}
 use Rattle.compilation.specs.Compile.{built, compileAnswer}
 use Rattle.compilation.specs.Demand.{PartNeedsMore, Shortest, Alike, Premises, SmallestTable, Compiled, Named}
-use Rattle.compilation.proofs.Answer.{Told, fits, exceeds, told, Tested, names-nothing, names-byte, goes-on, test, premises-answer}
-use Rattle.compilation.proofs.Parts.{needs-count, exceeds-shortest, shortest-exceeds, bytes-smallest, whole-few, told-named, told-exceeds, encode-alike, some-made, made}
+use Rattle.compilation.proofs.Answer.{Few, Told, fits, exceeds, told, Tested, names-nothing, names-byte, goes-on, test, premises-answer}
+use Rattle.compilation.proofs.Parts.{needs-count, exceeds-shortest, shortest-exceeds, bytes-smallest, whole-few, told-bytes, told-named, told-exceeds, encode-alike, some-made, made}
 
 module _ (book : List ℕ) (end n work room : ℕ) where
   -- "A compiled table does what its book does on every sentence of every length; no sequential transducer that does so has fewer
@@ -104,6 +104,20 @@ same-bytes book book' end end' n n' work work' room room' bytes bytes' c d r s k
     let b = made book' end' n' work' room' bytes' f d s in
     let alike = encode-alike c d (a .valid) (b .valid) (a .within) (b .within) k in
     (λ g. alike .0 (sym (a .bytes-are) ∙ g ∙ b .bytes-are), λ h. a .bytes-are ∙ alike .1 h ∙ sym (b .bytes-are))
+
+-- a greater ceiling and longer slices change nothing: a book that compiles at one ceiling has the same table at every greater one, or 11
+-- where its bytes do not fit
+pub greater-ceiling : (book : List ℕ) (end n work room : ℕ) (bytes : List ℕ) → compileAnswer book end n work room ≡ result bytes
+    → (n' work' room' : ℕ) (c : Cascade) → n ≤ n' → Premises book end n' work' c → compileAnswer book end n' work' room' ≡ fitting room' bytes
+greater-ceiling book end n work room bytes e n' work' room' c l p =
+    let m = made book end n work room bytes e c (p .reads) in
+    premises-answer book end n' work' room' c p
+    ∙ by (told n' c) (told-bytes c n room bytes (told n c) (sym (premises-answer book end n work room c (m .premises)) ∙ e) .0) (m .bytes-are)
+  where
+    by : {o : Outcome Table} → Told n' c o → Few n c (length (c .rules)) → bytes ≡ encode (c .tags) (tableOf c)
+        → andThen o (λ t. fitting room' (encode (c .tags) t)) ≡ fitting room' bytes
+    by (fits f) few b = ap (fitting room') (sym b)
+    by (exceeds i x) few b = absurd (omega (arith, few i (x .some) (x .inside), x .more))
 
 -- the calls that name no end tag are those of document 01: what a book makes of a sentence is what its rules make of the whole of it
 pub no-end-whole : (book : List ℕ) (c : Cascade) → readEnding book no-end ≡ result c → (w : List ℕ) → Below (c .tags) w → behavior c w ≡ applyAll (c .rules) w

@@ -4,3 +4,4 @@ pub mod Demand
 pub mod Loaded
 pub mod Typing
 pub mod Rules
+pub mod Starter

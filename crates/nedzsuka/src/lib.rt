@@ -1,5 +1,5 @@
-// The functions for C (document 01, "host door"): compile and the run of a book, both also with an end tag, the run that tells the rules, the runs
-// of a table and of a loaded one, loading, the two readers and typing, each answering one number.
+// The functions for C (document 01, "host door"): compile and the run of a book, both also with an end tag, the starter table, the run that tells
+// the rules, the runs of a table and of a loaded one, loading, the two readers and typing, each answering one number.
 // include/nedzsuka.h tells a host what they promise.
 use answers::WriteAnswer;
 use books::BookAnswer;
@@ -28,6 +28,7 @@ ghost use Rattle.tables.specs.Run.{tableRun};
 ghost use Rattle.loaded.specs.Run.{loadedRun, loadAnswer};
 ghost use Rattle.compilation.specs.Compile.{tested, compileAnswer};
 ghost use Rattle.compiler.specs.Answer.{worked};
+ghost use Rattle.starter.specs.Starter.{starterAnswer};
 ghost use Rattle.packing.specs.Packed.{packed, packedByte};
 ghost use Rattle.typing.specs.Typing.{opened, give, look, close};
 ghost use Rattle.handing.specs.Typing.{sentenceOf, openedAs, openedOn, TypeCall};
@@ -63,6 +64,16 @@ pub extern "C" fn nedzsuka_compile(
     ensures work { λ r. ⌜ now (work .exit) ≡ worked ceiling (tested (now (book .entry)) no-end ceiling (length (now (work .entry)))) (now (work .entry)) ⌝ }
 {
     nedzsuka_compile_ending(book, limits::NO_END, ceiling, work, out)
+}
+
+// starter::write_table: the number of the starter table's bytes, or 11.
+#[no_mangle]
+pub extern "C" fn nedzsuka_starter_table(out: &mut [u8]) -> u64
+    ensures answer { λ r. ⌜ r ≡ packed (longOf (starterAnswer (length (now (out .entry))))) ⌝ }
+    ensures out { λ r. ⌜ now (out .exit) ≡ written (starterAnswer (length (now (out .entry)))) (now (out .entry)) ⌝ }
+{
+    let answer = starter::write_table(out);
+    pack_compile(answer)
 }
 
 // tagger::run_book_ending: the number of changed tags, or the refusal.

@@ -1,0 +1,2 @@
+-- Theorems about the starter table.
+pub mod Starter

@@ -1,0 +1,2 @@
+-- The starter table.
+pub mod Starter
