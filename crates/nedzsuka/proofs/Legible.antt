@@ -40,6 +40,8 @@ use Rattle.loaded.proofs.Count.{numbers-few}
 use Rattle.compilation.specs.Compile.{built, compileAnswer}
 use Rattle.compilation.proofs.Answer.{Told, fits, exceeds, told, table-valid, Tested, names-nothing, names-byte, goes-on, test}
 use Rattle.compilation.proofs.Parts.{whole-few}
+use Rattle.starter.specs.Starter.{starterAnswer}
+use Rattle.starter.proofs.Starter.{bytes, computed, long}
 use Rattle.packing.specs.Packed.{Legible, LegibleByte}
 use Rattle.nedzsuka.specs.Sizes.{bookSize, bookSizes, tableSize, tableSizes}
 
@@ -173,7 +175,8 @@ module _ (table : List ℕ) (bytes : Below 0x100 table) where
           let few : length ns < 2 ^ 56 = omega (arith, numbers-few (d .tags) (d .table) v, valid-length (d .tags) (d .table) v) in
           subst (λ (x : Outcome Decoded). Legible (after x)) (sym e) (legible-fitting ns few (leb (length ns) room))
       by (refuses e) = subst (λ (x : Outcome Decoded). Legible (after x)) (sym e) malformed-told
-      -- ---- of compile
+
+-- ---- of compile
 
 module _ (book : List ℕ) (end n work room : ℕ) where
   pub legible-compile : Legible (longOf (compileAnswer book end n work room))
@@ -191,3 +194,9 @@ module _ (book : List ℕ) (end n work room : ℕ) where
       by (names-nothing j a b d) = (a, b, d)
       by (names-byte j i a b d) = (a, b, d)
       by (goes-on c v p) = late c v (p .some) (p .most) (told n c)
+
+-- ---- of the starter table
+
+pub legible-starter : (room : ℕ) → Legible (longOf (starterAnswer room))
+legible-starter room =
+    subst (λ (o : Outcome (List ℕ)). Legible (longOf o)) (sym (computed room)) (legible-fitting bytes (omega (arith, long)) (leb (length bytes) room))

@@ -13,6 +13,7 @@ use Rattle.tagger.specs.Run.{bookRun}
 use Rattle.minimal.specs.TableOf.{tableOf}
 use Rattle.tables.specs.Bytes.{encode}
 use Rattle.tables.specs.Run.{tableRun}
+use Rattle.compilation.specs.Compile.{compileAnswer}
 use Rattle.compilation.specs.Demand.{Premises, Compiled}
 use Rattle.compilation.proofs.Demand as demand
 use Rattle.compilation.proofs.Runs as runs
@@ -27,7 +28,7 @@ pub reads : readEnding starterBook no-end ≡ result starterCascade
 reads = refl
 
 pub computed : (room : ℕ) → starterAnswer room ≡ fitting room bytes
-unfolding bytes
+unfolding bytes starterAnswer
 computed room = refl
 
 pub long : length bytes ≡ 731
@@ -38,6 +39,11 @@ long = refl
 
 pub answers : (room : ℕ) → 731 ≤ room → starterAnswer room ≡ result bytes
 answers room l = computed room ∙ ap (λ t. provided 11 t (result bytes)) (le-leb (length bytes) room (omega (arith, long)))
+
+-- as an equation with compile
+compiles : compileAnswer starterBook no-end 3 (work-entries 3 48 1) 731 ≡ result bytes
+unfolding starterAnswer
+compiles = answers 731 (omega arith)
 
 pub short : (room : ℕ) → room < 731 → starterAnswer room ≡ refused 11 nothing
 short room l = computed room ∙ ap (λ t. provided 11 t (result bytes)) (lt-leb (length bytes) room (omega (arith, long)))
@@ -52,13 +58,13 @@ front array before after w l e =
 pub at-every-ceiling : AtEveryCeiling
 at-every-ceiling n work room l m w =
     let p : Premises starterBook no-end n work starterCascade = record { reads = reads; some = omega arith; most = m; long = w } in
-    demand.greater-ceiling starterBook no-end 3 (work-entries 3 48 1) 731 bytes (answers 731 (omega arith)) n work room starterCascade l p
+    demand.greater-ceiling starterBook no-end 3 (work-entries 3 48 1) 731 bytes compiles n work room starterCascade l p
     ∙ sym (computed room)
 
 -- so demand 3 holds of it,
 pub compiled : Compiled starterBook no-end 3 (work-entries 3 48 1) bytes
-compiled = demand.compiled starterBook no-end 3 (work-entries 3 48 1) 731 bytes (answers 731 (omega arith))
+compiled = demand.compiled starterBook no-end 3 (work-entries 3 48 1) 731 bytes compiles
 
 -- and its run is the run of the book, for every sentence and every output slice
 pub same-run : (sentence : List ℕ) (slice : ℕ) → tableRun bytes sentence slice ≡ bookRun starterBook no-end sentence slice
-same-run = runs.same-run starterBook no-end 3 (work-entries 3 48 1) 731 bytes (answers 731 (omega arith))
+same-run = runs.same-run starterBook no-end 3 (work-entries 3 48 1) 731 bytes compiles

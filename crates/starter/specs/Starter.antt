@@ -17,7 +17,7 @@ abbrev pub starterBook : List ℕ
 starterBook = 0x20 ∷ 48 ∷ 0x21 ∷ 1 ∷ 2 ∷ 0x22 ∷ 0 ∷ 0x22 ∷ 1 ∷ 0x00 ∷ []
 
 -- what compile answers for it, by the length of the output slice; with the lowest ceiling and the shortest work slice,
-abbrev pub starterAnswer : ℕ → Outcome (List ℕ)
+unfoldable pub starterAnswer : ℕ → Outcome (List ℕ)
 starterAnswer room = compileAnswer starterBook no-end 3 (work-entries 3 48 1) room
 
 -- and "wherever the ceiling is 3 to 256 and the slices are long enough"

@@ -2,10 +2,8 @@
 use borrow.Author.Needs.{needs}
 use mathlib.Core.Path.{sym, ap, _∙_, subst}
 use lib.ListN.{length}
-use Rattle.limits.specs.Limits.{no-end, work-entries}
 use Rattle.packing.specs.Packed.{packed, Legible}
-use Rattle.starter.specs.Starter.{starterBook}
-use Rattle.nedzsuka.proofs.Legible.{legible-compile}
+use Rattle.nedzsuka.proofs.Legible.{legible-starter}
 use Rattle.nedzsuka.proofs.nedzsuka_starter_table.Statement.{statement}
 use Rattle.nedzsuka.proofs.nedzsuka_starter_table.Tie as tie
 use Rattle.nedzsuka.proofs.nedzsuka_starter_table.Reads as reads
@@ -24,7 +22,7 @@ returns c =
 pack-compile-requires : tie.Need-pack-compile-requires
 pack-compile-requires c κs =
     let out = c .before .before .before .before .before .args .out .now in
-    subst Legible (sym (c .before .before .write-table .ensures .0)) (legible-compile starterBook no-end 3 (work-entries 3 48 1) (length out))
+    subst Legible (sym (c .before .before .write-table .ensures .0)) (legible-starter (length out))
 
 same-length : tie.Need-same-length
 same-length c = search needs
