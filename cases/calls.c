@@ -10,6 +10,7 @@
    one_rules COMMAND K LONGEST [LAST]   for 1 to LONGEST every book of one rule with so many of 0 and 1 in its pattern, LAST behind them, and
                                         the other of both for new tag: how many, the states of their tables, the least to the most, and
                                         how many are refused with 10 at rule 1 where the ceiling is one lower
+   starter ROOM                         the starter table's bytes or the refusal, then the output slice
    read_book BOOK                       the tags and rules, or the refusal and its byte
    read_table TABLE                     the tags and states, or the refusal
    load_table ROOM TABLE                how many numbers were written or the refusal, then the loaded slice
@@ -28,8 +29,8 @@
    run_rules it is 255 otherwise.
 
    ROOM is the length of the output slice, ENTRIES that of the work slice; bytes are pairs of hexadecimal digits, numbers decimal. Output
-   and work slices are the front of longer memory, which holds sevens before each call; typing and run_rules tell where other bytes of it
-   were written.
+   and work slices are the front of longer memory, which holds sevens before each call; typing, run_rules and starter tell where other
+   bytes of it were written.
    A line that can't be read ends the program with status 2. */
 #include <nedzsuka.h>
 
@@ -166,6 +167,17 @@ static void print_run(uint64_t answer, size_t room)
     if (!refused(answer, "nothing"))
         printf("%" PRIu64 " changed", nedzsuka_value(answer));
     print_slice("output", out, room);
+}
+
+static void starter(void)
+{
+    size_t room = read_number(MOST_BYTES);
+    uint64_t answer = nedzsuka_starter_table(out, room);
+
+    if (!refused(answer, "nothing"))
+        printf("%" PRIu64 " bytes", nedzsuka_value(answer));
+    print_slice("output", out, room);
+    print_beyond(out, room);
 }
 
 static uint64_t run_book(size_t book_len, size_t length, uint8_t *to, size_t room)
@@ -406,6 +418,8 @@ static void answer_line(const char *word)
         compile(strcmp(word, "slices") == 0);
     else if (strcmp(word, "one_rules") == 0)
         one_rules();
+    else if (strcmp(word, "starter") == 0)
+        starter();
     else if (strcmp(word, "read_book") == 0)
         read_book();
     else if (strcmp(word, "read_table") == 0)

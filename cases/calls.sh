@@ -741,3 +741,47 @@ refused_book 7 'a seventeenth rule' "20 02$(times 16 ' 21 00 01 22 00') 24 00 01
 refused_book 14 'an end tag that is no tag' "$book_a"
 rooms 'a longer sentence with a tag not below K' 2 2 "$longer" 'refused 13, output 7 7, rules 7 7'
 rooms 'a tag not below K' 2 2 '00 02 01' 'refused 4, output 7 7, rules 7 7'
+
+# ---- The starter table ----
+
+# 0 1 to 0 2 over 48 tags, worked out by hand: in the first state 0 leads to the second; there 0 stays, 1 is put out as 2 and leads to the
+# third, which rests; all else is put out as it is and leads to the first.
+starter_book='20 30 21 01 02 22 00 22 01 00'
+starter_table=$(
+    printf '30 30 00 03'
+    for state in 0 1 2; do
+        printf ' 31 00'
+        for tag in {0..47}; do
+            case $state:$tag in
+            0:0 | 1:0) printf ' 33 00 01 34 00' ;;
+            1:1) printf ' 33 00 02 34 02' ;;
+            2:*) printf ' 33 00 02 34 %02x' "$tag" ;;
+            *) printf ' 33 00 00 34 %02x' "$tag" ;;
+            esac
+        done
+    done
+    printf ' 00'
+)
+starter_bytes=$(printf ' %d' $(printf '0x%s ' $starter_table))
+
+call 'starter table' 'starter 731' "731 bytes, output$starter_bytes"
+call 'starter table, longer slice' 'starter 734' "731 bytes, output$starter_bytes 7 7 7"
+call 'starter table, one byte short' 'starter 730' "refused 11, output$(times 730 ' 7')"
+call 'starter table, no bytes' 'starter 0' 'refused 11, output'
+call 'starter table, read' "read_table $starter_table" 'tags 48, states 3'
+for ceiling in 3 4 47 106; do
+    call "starter book, ceiling $ceiling" "compile $ceiling $((16 * ceiling * 49 * 13)) 731 $starter_book" "states 3, bytes 731, $agree"
+done
+call 'starter book, ceiling 2' "compile 2 20384 731 $starter_book" 'refused 10 at rule 1'
+call 'starter book, ceiling 3, one byte short' "compile 3 30576 730 $starter_book" 'refused 11'
+
+# run_starter NAME SENTENCE RESULT: by the table and by the book.
+run_starter() {
+    call "starter table, $1" "run_table 7 $starter_table / $2" "$3"
+    call "starter book, $1" "run_book 7 $starter_book / $2" "$3"
+}
+run_starter 'no tags' '' '0 changed, output 7 7 7 7 7 7 7'
+run_starter '0 1 0 1' '00 01 00 01' '1 changed, output 0 2 0 1 7 7 7'
+run_starter '0 0 1 47 0 1' '00 00 01 2f 00 01' '1 changed, output 0 0 2 47 0 1 7'
+run_starter '1 0 2 0 47 1' '01 00 02 00 2f 01' '0 changed, output 1 0 2 0 47 1 7'
+run_starter 'a tag not below K' '00 01 30' 'refused 4, output 7 7 7 7 7 7 7'

@@ -17,9 +17,10 @@ enum { REFUSALS = 17, SIZES = 9, MOST_SHOWN = 4096, SECONDS_A_CALL = 100, RULES_
 enum { STATE, GIVEN, CLOSED, NUMBERS };
 
 static const char *const call_name[CALLS] = {
-    "nedzsuka_compile",   "nedzsuka_compile_ending", "nedzsuka_run_book",   "nedzsuka_run_book_ending", "nedzsuka_run_book_rules",
-    "nedzsuka_run_table", "nedzsuka_read_book",      "nedzsuka_read_table", "nedzsuka_load_table",      "nedzsuka_run_loaded",
-    "nedzsuka_open",      "nedzsuka_give",           "nedzsuka_look",       "nedzsuka_close"};
+    "nedzsuka_compile",         "nedzsuka_compile_ending", "nedzsuka_starter_table", "nedzsuka_run_book",
+    "nedzsuka_run_book_ending", "nedzsuka_run_book_rules", "nedzsuka_run_table",     "nedzsuka_read_book",
+    "nedzsuka_read_table",      "nedzsuka_load_table",     "nedzsuka_run_loaded",    "nedzsuka_open",
+    "nedzsuka_give",            "nedzsuka_look",           "nedzsuka_close"};
 
 static struct {
     enum call call;
@@ -269,6 +270,23 @@ uint64_t compare_compile_ending(const uint8_t *book, size_t book_len, unsigned e
                                 size_t out_len)
 {
     return compare_compiling(COMPILE_ENDING, book, book_len, end, ceiling, work_len, out_len);
+}
+
+uint64_t compare_starter(size_t out_len)
+{
+    now.call = STARTER_TABLE;
+    now.bytes = expected_out; /* there is no book */
+    now.length = 0;
+    now.out_len = out_len;
+    lend_input(&first_slice, now.bytes, 0);
+    lend_random(&out_slice, out_len, expected_out);
+    now.expected = reference_starter_table(expected_out, out_len);
+    alarm(SECONDS_A_CALL);
+    now.answer = nedzsuka_starter_table(out_slice.at, out_len);
+    check_call();
+    check_out();
+    count_answer();
+    return now.answer;
 }
 
 static void run_both(void)

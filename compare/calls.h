@@ -10,6 +10,7 @@
 enum call {
     COMPILE,
     COMPILE_ENDING,
+    STARTER_TABLE,
     RUN_BOOK,
     RUN_BOOK_ENDING,
     RUN_BOOK_RULES,
@@ -37,6 +38,7 @@ void fail(const char *what);
 uint64_t compare_compile(const uint8_t *book, size_t book_len, uint64_t ceiling, size_t work_len, size_t out_len);
 uint64_t compare_compile_ending(const uint8_t *book, size_t book_len, unsigned end, uint64_t ceiling, size_t work_len,
                                 size_t out_len);
+uint64_t compare_starter(size_t out_len);
 uint64_t compare_run(enum call call, const uint8_t *bytes, size_t length, const uint8_t *sentence, size_t sentence_len,
                      size_t out_len);
 uint64_t compare_run_ending(const uint8_t *book, size_t book_len, unsigned end, const uint8_t *sentence, size_t sentence_len,

@@ -14,6 +14,7 @@
 #include "places.h"
 #include "rules.h"
 #include "slices.h"
+#include "starter.h"
 #include "typing.h"
 
 enum { SMALL_RULES = 68, SMALL_BOOKS = 1 + SMALL_RULES + SMALL_RULES * SMALL_RULES, LONGEST_SENTENCE = 65535 };
@@ -628,6 +629,7 @@ static void compare_chosen(void)
     compare_full_sentences();
     compare_places();
     compare_two_rules();
+    compare_starter_table();
     compare_ending_cases();
     compare_every_end();
     alike += compare_ending_pairs();

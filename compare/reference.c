@@ -1033,3 +1033,12 @@ uint64_t reference_compile(const uint8_t *book, size_t book_len, uint64_t ceilin
 {
     return reference_compile_ending(book, book_len, NO_END, ceiling, work, work_len, out, out_len);
 }
+
+/* "K = 48, pattern 0 1, place 1, new tag 2" (document 02, W7), with the lowest ceiling at which it compiles. */
+uint64_t reference_starter_table(uint8_t *out, size_t out_len)
+{
+    static const uint8_t book[] = {0x20, 48, 0x21, 1, 2, 0x22, 0, 0x22, 1, 0x00};
+    static uint16_t work[16 * 3 * 49 * 13];
+
+    return reference_compile(book, sizeof book, 3, work, sizeof work / sizeof *work, out, out_len);
+}

@@ -11,6 +11,7 @@ uint64_t reference_run_book(const uint8_t *book, size_t book_len, const uint8_t 
                             uint8_t *out, size_t out_len);
 uint64_t reference_compile_ending(const uint8_t *book, size_t book_len, uint8_t end, uint64_t ceiling, uint16_t *work,
                                   size_t work_len, uint8_t *out, size_t out_len);
+uint64_t reference_starter_table(uint8_t *out, size_t out_len);
 uint64_t reference_run_book_ending(const uint8_t *book, size_t book_len, uint8_t end, const uint8_t *sentence,
                                    size_t sentence_len, uint8_t *out, size_t out_len);
 uint64_t reference_run_book_rules(const uint8_t *book, size_t book_len, uint8_t end, const uint8_t *sentence,

@@ -9,7 +9,7 @@
    Which call is for what: nedzsuka_run_book for a book that is still edited; nedzsuka_run_book_rules for whoever corrects it and looks for
    the rule behind a changed tag; nedzsuka_run_table for a table that is used once; nedzsuka_load_table, once, and then
    nedzsuka_run_loaded for a table that is run on every sentence; nedzsuka_open, nedzsuka_give, nedzsuka_look and nedzsuka_close for a
-   sentence that is still being typed, through struct nedzsuka_sentence below.
+   sentence that is still being typed, through struct nedzsuka_sentence below; nedzsuka_starter_table for a first table, without a book.
 
    A slice that holds several sentences, a paragraph, is for nedzsuka_compile_ending, nedzsuka_run_book_ending and
    nedzsuka_run_book_rules: they take an end tag, the number of the full stop. The slice is cut after each end tag, the rules are applied
@@ -56,8 +56,8 @@
 #include <stdint.h>
 
 /* The version, in words and as 10,000 * major + 100 * minor + patch. */
-#define NEDZSUKA_VERSION "0.5.0"
-#define NEDZSUKA_VERSION_NUMBER 500
+#define NEDZSUKA_VERSION "0.6.0"
+#define NEDZSUKA_VERSION_NUMBER 600
 
 #ifdef __cplusplus
 extern "C" {
@@ -75,6 +75,7 @@ enum nedzsuka_bound {
     NEDZSUKA_LONGEST_SENTENCE = 65535,  /* tags */
     NEDZSUKA_LONGEST_BOOK = 243,        /* bytes of a valid book: 2 + 16 * (3 + 6 * 2) + 1 */
     NEDZSUKA_LONGEST_TABLE = 2061157,   /* bytes of a well-formed table, compiled or not: 4 + 242 + 255 * 8082 + 1 */
+    NEDZSUKA_STARTER_TABLE = 731,       /* bytes of the starter table */
     NEDZSUKA_NO_END = 255,              /* the end tag of calls with none */
     NEDZSUKA_MOST_WORK = 17661952       /* entries of the work slice that are enough for every call: 16 * 256 * 49 * 88;
                                            with two bytes each 35,323,904 bytes, about 34 MiB */
@@ -136,6 +137,18 @@ uint64_t nedzsuka_compile(const uint8_t *book, size_t book_len, uint64_t ceiling
      it. The upper part is 0, and the work slice and the output slice keep what they had. */
 uint64_t nedzsuka_compile_ending(const uint8_t *book, size_t book_len, uint8_t end, uint64_t ceiling, uint16_t *work, size_t work_len,
                                  uint8_t *out, size_t out_len);
+
+/* Writes the starter table to the front of out and answers its length, 731 bytes. It is the table of the starter book, which has 48 tags
+   and one rule, 0 1 to 0 2, once:
+
+       20 30 21 01 02 22 00 22 01 00
+
+   The answer and the bytes in out are those of nedzsuka_compile for this book with every ceiling from 3 to 256 and a work slice that is
+   long enough. So the table has three states and no other for this book has fewer, and its runs are those of the book, on every sentence.
+   Nothing is compiled: the table is a constant of the library.
+
+   Refusal: 11, out_len is below 731. */
+uint64_t nedzsuka_starter_table(uint8_t *out, size_t out_len);
 
 /* Runs a book over a sentence, one tag a byte: what its rules leave, applied in order, goes to the front of out and is as long as the
    sentence. Answers the number of places at which sentence and result differ: two changes that undo one another count as none.
