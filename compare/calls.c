@@ -493,13 +493,14 @@ static void print_refusals(enum call call)
     printf("; ");
 }
 
-void print_counts(size_t tried_out, size_t alike)
+void print_counts(const char *part, size_t tried_out, size_t alike)
 {
     int ceilings = 0;
 
     for (int i = 1; i <= 256; i++)
         ceilings += ten_at[i] > 0;
-    printf("compare: no difference in %" PRIu64 " calls, seed %" PRIu64 "; answers by refusal (0 none): ", calls_made, seed_used);
+    printf("compare: %s inputs: no difference in %" PRIu64 " calls, seed %" PRIu64 "; answers by refusal (0 none): ", part, calls_made,
+           seed_used);
     for (int call = 0; call < CALLS; call++)
         print_refusals((enum call)call);
     printf("10 at %d of 256 ceilings; tables of 1, 2-3, 4-7, .. 128-255, 256 states:", ceilings);

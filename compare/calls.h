@@ -58,6 +58,6 @@ size_t states_of(const uint8_t *table);
 /* The entries that document 01 asks of a work slice. */
 size_t work_entries(size_t ceiling, size_t tags, size_t rules);
 /* Prints what was seen, on one line. */
-void print_counts(size_t tried_out, size_t alike);
+void print_counts(const char *part, size_t tried_out, size_t alike);
 
 #endif

@@ -659,15 +659,19 @@ static void compare_drawn(void)
 int main(int argc, char **argv)
 {
     char *end = NULL;
-    uint64_t seed = argc > 1 ? strtoull(argv[1], &end, 10) : 20111115;
+    const char *part = argc > 1 ? argv[1] : "";
+    uint64_t seed = argc > 2 ? strtoull(argv[2], &end, 10) : 20111115;
 
-    if (argc > 2 || (argc > 1 && (*argv[1] < '0' || *argv[1] > '9' || *end != '\0'))) {
-        fprintf(stderr, "usage: compare [SEED], a number\n");
+    if (argc > 3 || (strcmp(part, "chosen") != 0 && strcmp(part, "drawn") != 0) ||
+        (argc > 2 && (*argv[2] < '0' || *argv[2] > '9' || *end != '\0'))) {
+        fprintf(stderr, "usage: compare chosen|drawn [SEED], a number\n");
         return 2;
     }
     start_calls(seed);
-    compare_chosen();
-    compare_drawn();
-    print_counts(tried_out, alike);
+    if (strcmp(part, "chosen") == 0)
+        compare_chosen();
+    else
+        compare_drawn();
+    print_counts(part, tried_out, alike);
     return 0;
 }

@@ -10,7 +10,7 @@
 enum { STARTER_TAGS = 48, LEAST_CEILING = 3, DRAWN_SENTENCES = 3000 };
 
 static const struct made_book book = {STARTER_TAGS, 1, {{{0, 1}, 2, 1, 2, 0}}};
-static uint8_t bytes[LONGEST_BOOK], table[NEDZSUKA_STARTER_TABLE], sentence[LONGEST_TRIED_SENTENCE];
+static uint8_t bytes[LONGEST_BOOK], table[NEDZSUKA_STARTER_BYTES], sentence[LONGEST_TRIED_SENTENCE];
 
 static void compare_every_length(void)
 {

@@ -5,8 +5,8 @@
 int main(void)
 {
     const uint8_t sentence[] = {7, 0, 1, 0, 1};
-    uint8_t table[NEDZSUKA_STARTER_TABLE], out[sizeof sentence];
-    uint32_t loaded[NEDZSUKA_STARTER_TABLE];
+    uint8_t table[NEDZSUKA_STARTER_BYTES], out[sizeof sentence];
+    uint32_t loaded[NEDZSUKA_STARTER_BYTES];
     uint64_t answer;
 
     nedzsuka_starter_table(table, sizeof table);

@@ -75,7 +75,7 @@ enum nedzsuka_bound {
     NEDZSUKA_LONGEST_SENTENCE = 65535,  /* tags */
     NEDZSUKA_LONGEST_BOOK = 243,        /* bytes of a valid book: 2 + 16 * (3 + 6 * 2) + 1 */
     NEDZSUKA_LONGEST_TABLE = 2061157,   /* bytes of a well-formed table, compiled or not: 4 + 242 + 255 * 8082 + 1 */
-    NEDZSUKA_STARTER_TABLE = 731,       /* bytes of the starter table */
+    NEDZSUKA_STARTER_BYTES = 731,       /* bytes of the starter table */
     NEDZSUKA_NO_END = 255,              /* the end tag of calls with none */
     NEDZSUKA_MOST_WORK = 17661952       /* entries of the work slice that are enough for every call: 16 * 256 * 49 * 88;
                                            with two bytes each 35,323,904 bytes, about 34 MiB */
