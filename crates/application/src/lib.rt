@@ -33,7 +33,7 @@ pub fn apply_rules(
 {
     let mut i = 0;
     while i < m {
-        let rule = books::rule_at(rows, lengths, heads, i);
+        let rule = reader::rule_at(rows, lengths, heads, i);
         i += 1;
         rewriting::apply_rule(s, v, rule, i as u8);
     }

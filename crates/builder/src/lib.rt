@@ -51,7 +51,7 @@ pub fn build(
     let mut n = 1;
     let mut i = 0;
     while i < m {
-        let rule = books::rule_at(rows, lengths, heads, i);
+        let rule = reader::rule_at(rows, lengths, heads, i);
         let count = addition::add_rule(work, g, n, ceiling, rule, end);
         if ceiling < count {
             return CompileAnswer::Refused(Refusal::AtRule {

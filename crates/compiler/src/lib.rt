@@ -115,7 +115,7 @@ pub fn compile_ending(
     let mut rows = [[0u8; PATTERN]; RULES];
     let mut lengths = [0usize; RULES];
     let mut heads = [[0u8; HEAD]; RULES];
-    let got = books::read_into(book, &mut rows, &mut lengths, &mut heads);
+    let got = reader::read_into(book, &mut rows, &mut lengths, &mut heads);
     match got {
         BookAnswer::Refused(refusal) => CompileAnswer::Refused(refusal),
         BookAnswer::Book { tags: k, rules } => compile_rules(

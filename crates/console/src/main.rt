@@ -137,7 +137,7 @@ fn answer<'a>(call: Call, a: &'a [u8], b: &'a [u8])
     requires { ⌜ (length (now a) ≤ 4096) × (length (now b) ≤ 70000) ⌝ }
 {
     match call {
-        Call::Book => put_book(books::read_book(a)),
+        Call::Book => put_book(reader::read_book(a)),
         Call::Run => answer_run(a, b, b.len() + 2),
         Call::Short => answer_short(a, b),
         Call::Long => answer_long(a, b),

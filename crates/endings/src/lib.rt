@@ -59,7 +59,7 @@ fn some_misuses(
 {
     let mut i = 0;
     while i < m {
-        let rule = books::rule_at(rows, lengths, heads, i);
+        let rule = reader::rule_at(rows, lengths, heads, i);
         if misuses(rule, end) {
             return true;
         }

@@ -148,12 +148,12 @@ pub extern "C" fn nedzsuka_run_loaded(loaded: &[u32], sentence: &[u8], out: &mut
     pack_run(answer)
 }
 
-// books::read_book: K × 256 + the number of rules, or the refusal with its byte.
+// reader::read_book: K × 256 + the number of rules, or the refusal with its byte.
 #[no_mangle]
 pub extern "C" fn nedzsuka_read_book(book: &[u8]) -> u64
     ensures { λ r. ⌜ r ≡ packedByte (bookSizes (now (book .entry))) ⌝ }
 {
-    match books::read_book(book) {
+    match reader::read_book(book) {
         BookAnswer::Book { tags, rules } => pack(wide(tags) * 256 + rules, 0),
         BookAnswer::Refused(given) => pack_byte(given),
     }

@@ -82,7 +82,7 @@ fn answer(book: &[u8]) {
 }
 
 fn answer_book(book: &[u8]) {
-    match books::read_book(book) {
+    match reader::read_book(book) {
         BookAnswer::Refused(refusal) => put_refusal(refusal),
         BookAnswer::Book { tags, rules } => {
             if 4 < tags {

@@ -137,7 +137,7 @@ fn run_into(
     let mut lengths = [0usize; RULES];
     let mut heads = [[0u8; HEAD]; RULES];
     let n = book.len();
-    let got = books::read_into(&book[..n], &mut rows, &mut lengths, &mut heads);
+    let got = reader::read_into(&book[..n], &mut rows, &mut lengths, &mut heads);
     match got {
         BookAnswer::Refused(refusal) => RunAnswer::Refused(refusal),
         BookAnswer::Book { tags: k, rules } => run_pieces(
@@ -187,7 +187,7 @@ pub fn run_book(book: &[u8], sentence: &[u8], out: &mut [u8]) -> RunAnswer
     let mut rows = [[0u8; PATTERN]; RULES];
     let mut lengths = [0usize; RULES];
     let mut heads = [[0u8; HEAD]; RULES];
-    let got = books::read_into(book, &mut rows, &mut lengths, &mut heads);
+    let got = reader::read_into(book, &mut rows, &mut lengths, &mut heads);
     match got {
         BookAnswer::Refused(refusal) => RunAnswer::Refused(refusal),
         BookAnswer::Book { tags: k, rules } => run_rules(

@@ -15,7 +15,7 @@ use Rattle.application.proofs.apply_rules.Statement.{statement}
 use Rattle.application.proofs.apply_rules.Tie as tie
 use Rattle.application.proofs.apply_rules.Reads as reads
 use Rattle.application.proofs.apply_rules.Lts as lts
-use Rattle.books.proofs.rule_at.Reads as rule-at-reads
+use Rattle.reader.proofs.rule_at.Reads as rule-at-reads
 use Rattle.rewriting.proofs.apply_rule.Reads as apply-rule-reads
 
 abbrev Inv-loop : tie.InvT-loop

@@ -19,7 +19,7 @@ use Rattle.builder.proofs.build.Tie as tie
 use Rattle.builder.proofs.build.Reads as reads
 use Rattle.builder.proofs.build.Lts as lts
 use Rattle.addition.proofs.add_rule.Reads as add-rule-reads
-use Rattle.books.proofs.rule_at.Reads as rule-at-reads
+use Rattle.reader.proofs.rule_at.Reads as rule-at-reads
 use Rattle.builder.proofs.finish.Reads as finish-reads
 use Rattle.identity.proofs.write_identity.Reads as write-identity-reads
 

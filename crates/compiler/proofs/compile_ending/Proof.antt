@@ -14,7 +14,7 @@ use Rattle.compiler.proofs.compile_ending.Statement.{statement}
 use Rattle.compiler.proofs.compile_ending.Tie as tie
 use Rattle.compiler.proofs.compile_ending.Reads as reads
 use Rattle.compiler.proofs.compile_ending.Lts as lts
-use Rattle.books.proofs.read_into.Reads as read-into-reads
+use Rattle.reader.proofs.read_into.Reads as read-into-reads
 use Rattle.compiler.proofs.compile_rules.Reads as compile-rules-reads
 
 returns : tie.Need-returns

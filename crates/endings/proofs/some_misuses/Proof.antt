@@ -12,7 +12,7 @@ use Rattle.endings.proofs.some_misuses.Statement.{statement}
 use Rattle.endings.proofs.some_misuses.Tie as tie
 use Rattle.endings.proofs.some_misuses.Reads as reads
 use Rattle.endings.proofs.some_misuses.Lts as lts
-use Rattle.books.proofs.rule_at.Reads as rule-at-reads
+use Rattle.reader.proofs.rule_at.Reads as rule-at-reads
 use Rattle.endings.proofs.misuses.Reads as misuses-reads
 
 abbrev Inv-loop : tie.InvT-loop

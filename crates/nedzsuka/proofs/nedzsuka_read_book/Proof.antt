@@ -14,7 +14,7 @@ use Rattle.nedzsuka.proofs.nedzsuka_read_book.Statement.{statement}
 use Rattle.nedzsuka.proofs.nedzsuka_read_book.Tie as tie
 use Rattle.nedzsuka.proofs.nedzsuka_read_book.Reads as reads
 use Rattle.nedzsuka.proofs.nedzsuka_read_book.Lts as lts
-use Rattle.books.proofs.read_book.Reads as read-book-reads
+use Rattle.reader.proofs.read_book.Reads as read-book-reads
 use Rattle.packing.proofs.pack.Reads as pack-reads
 use Rattle.packing.proofs.pack_byte.Reads as pack-byte-reads
 use Rattle.words.proofs.wide.Reads as wide-reads

@@ -19,7 +19,7 @@ use Rattle.tagger.proofs.run_into.Statement.{statement}
 use Rattle.tagger.proofs.run_into.Tie as tie
 use Rattle.tagger.proofs.run_into.Reads as reads
 use Rattle.tagger.proofs.run_into.Lts as lts
-use Rattle.books.proofs.read_into.Reads as read-into-reads
+use Rattle.reader.proofs.read_into.Reads as read-into-reads
 use Rattle.tagger.proofs.run_pieces.Reads as run-pieces-reads
 
 read-into-requires : tie.Need-read-into-requires

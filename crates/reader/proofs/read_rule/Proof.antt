@@ -1,20 +1,20 @@
--- `books::read_rule` meets its contract.
+-- `reader::read_rule` meets its contract.
 use Prim.Native.Nat.{_+_}
 use mathlib.Core.Logic.{inl, inr}
 use borrow.Author.Needs.{needs}
 use borrow.Author.Tests.{eqb-true, eqb-false}
 use lib.ListN.{getD}
 use Rattle.cascades.specs.Rule.{once, everywhere}
 use Rattle.books.specs.Arrays.{holding}
 use Rattle.books.specs.Resume.{readCommands}
 use Rattle.books.proofs.Commands.{command-unknown}
 use Rattle.books.proofs.Resume.{resumes-refused}
-use Rattle.books.proofs.read_rule.Statement.{statement}
-use Rattle.books.proofs.read_rule.Tie as tie
-use Rattle.books.proofs.read_rule.Reads as reads
-use Rattle.books.proofs.read_rule.Lts as lts
-use Rattle.books.proofs.open_rule.Reads as open-rule-reads
-use Rattle.books.proofs.refused.Reads as refused-reads
+use Rattle.reader.proofs.read_rule.Statement.{statement}
+use Rattle.reader.proofs.read_rule.Tie as tie
+use Rattle.reader.proofs.read_rule.Reads as reads
+use Rattle.reader.proofs.read_rule.Lts as lts
+use Rattle.commands.proofs.open_rule.Reads as open-rule-reads
+use Rattle.commands.proofs.refused.Reads as refused-reads
 
 shared-slice-read-command : tie.Need-shared-slice-read-command
 shared-slice-read-command c = search needs

@@ -1,20 +1,20 @@
--- `books::add_tag` meets its contract: each return is a case of the definition at 22.
+-- `commands::add_tag` meets its contract: each return is a case of the definition at 22.
 use native.Mathlib.Omega.{arith}
 use borrow.Author.Needs.{needs}
 use Prim.Native.Nat.{_+_, _-_}
 use lib.ListN.{getD}
 use Rattle.answers.specs.Outcome.{Outcome}
 use Rattle.cascades.specs.Rule.{Cascade}
 use Rattle.books.specs.Arrays.{Arrays, holding}
 use Rattle.books.specs.Resume.{readCommands}
 use Rattle.books.proofs.Arrays.{tagged-arrays, tagged-shaped}
 use Rattle.books.proofs.Commands.{tag-nowhere, tag-seventh, tag-missing, tag-high, tag-taken}
 use Rattle.books.proofs.Resume.{resumes-refused, resumes-book}
-use Rattle.books.proofs.add_tag.Statement.{statement}
-use Rattle.books.proofs.add_tag.Tie as tie
-use Rattle.books.proofs.add_tag.Reads as reads
-use Rattle.books.proofs.add_tag.Lts as lts
-use Rattle.books.proofs.refused.Reads as refused-reads
+use Rattle.commands.proofs.add_tag.Statement.{statement}
+use Rattle.commands.proofs.add_tag.Tie as tie
+use Rattle.commands.proofs.add_tag.Reads as reads
+use Rattle.commands.proofs.add_tag.Lts as lts
+use Rattle.commands.proofs.refused.Reads as refused-reads
 
 abbrev arrays : tie.Start → Arrays
 arrays st = holding (st .args .rows .now) (st .args .lengths .now) (st .args .heads .now)

@@ -1,4 +1,4 @@
--- `books::open_rule` meets its contract: each return is a case of the definition at 21 and 24.
+-- `commands::open_rule` meets its contract: each return is a case of the definition at 21 and 24.
 use native.Mathlib.Omega.{arith}
 use borrow.Author.Needs.{needs}
 use Prim.Native.Nat.{_+_, _-_}
@@ -6,17 +6,17 @@ use mathlib.Core.Path.{_∙_, ap}
 use lib.ListN.{getD}
 use Rattle.answers.specs.Outcome.{Outcome}
 use Rattle.cascades.specs.Rule.{Cascade}
 use Rattle.books.specs.Arrays.{Arrays, holding}
 use Rattle.books.specs.Resume.{readCommands, faulted}
 use Rattle.books.proofs.Arrays.{opened-arrays, opened-shaped}
 use Rattle.books.proofs.Commands.{rule-fault, rule-seventeenth, rule-no-place, rule-no-tag, rule-high, rule-opened}
 use Rattle.books.proofs.Resume.{resumes-refused, resumes-book}
-use Rattle.books.proofs.open_rule.Statement.{statement}
-use Rattle.books.proofs.open_rule.Tie as tie
-use Rattle.books.proofs.open_rule.Reads as reads
-use Rattle.books.proofs.open_rule.Lts as lts
-use Rattle.books.proofs.closing_fault.Reads as closing-fault-reads
-use Rattle.books.proofs.refused.Reads as refused-reads
+use Rattle.commands.proofs.open_rule.Statement.{statement}
+use Rattle.commands.proofs.open_rule.Tie as tie
+use Rattle.commands.proofs.open_rule.Reads as reads
+use Rattle.commands.proofs.open_rule.Lts as lts
+use Rattle.commands.proofs.closing_fault.Reads as closing-fault-reads
+use Rattle.commands.proofs.refused.Reads as refused-reads
 
 abbrev arrays : tie.Start → Arrays
 arrays st = holding (st .args .rows .now) (st .args .lengths .now) (st .args .heads .now)

@@ -1,23 +1,23 @@
--- `books::read_commands` meets its contract.
+-- `reader::read_commands` meets its contract.
 use borrow.Author.Needs.{needs}
 use Prim.Native.Nat.{_+_, _-_, _≤_}
 use native.Mathlib.Omega.{arith}
 use mathlib.Core.Path.{_≡_, refl, _∙_, sym, ap}
 use lib.ListN.{length}
 use Rattle.limits.specs.Limits.{most-rules}
 use Rattle.books.specs.Arrays.{holding, Shaped}
 use Rattle.books.specs.Resume.{readCommands, cascadeOutcome}
 use Rattle.books.specs.declared.BookAnswer.{BookAnswer}
 use Rattle.books.proofs.Commands.{command-missing}
 use Rattle.books.proofs.Resume.{refused-ends, book-goes-on}
-use Rattle.books.proofs.read_commands.Statement.{statement}
-use Rattle.books.proofs.read_commands.Tie as tie
-use Rattle.books.proofs.read_commands.Reads as reads
-use Rattle.books.proofs.read_commands.Lts as lts
-use Rattle.books.proofs.add_tag.Reads as add-tag-reads
-use Rattle.books.proofs.end_book.Reads as end-book-reads
-use Rattle.books.proofs.read_rule.Reads as read-rule-reads
-use Rattle.books.proofs.refused.Reads as refused-reads
+use Rattle.reader.proofs.read_commands.Statement.{statement}
+use Rattle.reader.proofs.read_commands.Tie as tie
+use Rattle.reader.proofs.read_commands.Reads as reads
+use Rattle.reader.proofs.read_commands.Lts as lts
+use Rattle.commands.proofs.add_tag.Reads as add-tag-reads
+use Rattle.commands.proofs.end_book.Reads as end-book-reads
+use Rattle.reader.proofs.read_rule.Reads as read-rule-reads
+use Rattle.commands.proofs.refused.Reads as refused-reads
 
 abbrev Inv-loop : tie.InvT-loop
 Inv-loop s k0 m0 rows₀ lengths₀ heads₀ k₀ m₀ at₀ rows lengths heads k m at =

@@ -1,15 +1,15 @@
--- `books::read_into` meets its contract.
+-- `reader::read_into` meets its contract.
 use mathlib.Core.Path.{refl}
 use Rattle.books.specs.Read.{read}
 use Rattle.books.specs.Arrays.{holding}
 use Rattle.books.proofs.Resume.{refused-ends, book-goes-on, ends-whole}
 use borrow.Author.Needs.{needs}
-use Rattle.books.proofs.read_into.Statement.{statement}
-use Rattle.books.proofs.read_into.Tie as tie
-use Rattle.books.proofs.read_into.Reads as reads
-use Rattle.books.proofs.read_into.Lts as lts
-use Rattle.books.proofs.open_book.Reads as open-book-reads
-use Rattle.books.proofs.read_commands.Reads as read-commands-reads
+use Rattle.reader.proofs.read_into.Statement.{statement}
+use Rattle.reader.proofs.read_into.Tie as tie
+use Rattle.reader.proofs.read_into.Reads as reads
+use Rattle.reader.proofs.read_into.Lts as lts
+use Rattle.commands.proofs.open_book.Reads as open-book-reads
+use Rattle.reader.proofs.read_commands.Reads as read-commands-reads
 
 open-book-requires : tie.Need-open-book-requires
 open-book-requires c κs = search needs

@@ -1,15 +1,15 @@
--- `books::open_book` meets its contract: each return is a case of the definition at the first two bytes.
+-- `commands::open_book` meets its contract: each return is a case of the definition at the first two bytes.
 use native.Mathlib.Omega.{arith}
 use borrow.Author.Needs.{needs}
 use lib.ListN.{getD}
 use Rattle.books.specs.Read.{read}
 use Rattle.books.proofs.Commands.{book-empty, book-other, book-no-size, book-few, book-many, book-sized}
 use Rattle.books.proofs.Resume.{resumes-refused, resumes-book}
-use Rattle.books.proofs.open_book.Statement.{statement}
-use Rattle.books.proofs.open_book.Tie as tie
-use Rattle.books.proofs.open_book.Reads as reads
-use Rattle.books.proofs.open_book.Lts as lts
-use Rattle.books.proofs.refused.Reads as refused-reads
+use Rattle.commands.proofs.open_book.Statement.{statement}
+use Rattle.commands.proofs.open_book.Tie as tie
+use Rattle.commands.proofs.open_book.Reads as reads
+use Rattle.commands.proofs.open_book.Lts as lts
+use Rattle.commands.proofs.refused.Reads as refused-reads
 
 refused-requires : tie.Need-refused-requires
 refused-requires c κs = search needs

@@ -1,13 +1,13 @@
--- `books::closing_fault` meets its contract: each return is a case of `fault` at the last rule.
+-- `commands::closing_fault` meets its contract: each return is a case of `fault` at the last rule.
 use Prim.Native.Nat.{_-_}
 use native.Mathlib.Omega.{arith}
 use borrow.Author.Needs.{needs}
 use Rattle.books.specs.Arrays.{Arrays, holding}
 use Rattle.books.proofs.Arrays.{closing-empty, closing-outside, closing-same, closing-none}
-use Rattle.books.proofs.closing_fault.Statement.{statement}
-use Rattle.books.proofs.closing_fault.Tie as tie
-use Rattle.books.proofs.closing_fault.Reads as reads
-use Rattle.books.proofs.closing_fault.Lts as lts
+use Rattle.commands.proofs.closing_fault.Statement.{statement}
+use Rattle.commands.proofs.closing_fault.Tie as tie
+use Rattle.commands.proofs.closing_fault.Reads as reads
+use Rattle.commands.proofs.closing_fault.Lts as lts
 use Rattle.words.proofs.wide.Reads as wide-reads
 
 abbrev arrays : tie.Start → Arrays

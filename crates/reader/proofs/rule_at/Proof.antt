@@ -1,9 +1,9 @@
--- `books::rule_at` meets its contract.
+-- `reader::rule_at` meets its contract.
 use borrow.Author.Needs.{needs}
-use Rattle.books.proofs.rule_at.Statement.{statement}
-use Rattle.books.proofs.rule_at.Tie as tie
-use Rattle.books.proofs.rule_at.Reads as reads
-use Rattle.books.proofs.rule_at.Lts as lts
+use Rattle.reader.proofs.rule_at.Statement.{statement}
+use Rattle.reader.proofs.rule_at.Tie as tie
+use Rattle.reader.proofs.rule_at.Reads as reads
+use Rattle.reader.proofs.rule_at.Lts as lts
 use Rattle.words.proofs.wide.Reads as wide-reads
 
 mul-row : tie.Need-mul-row

@@ -1,20 +1,20 @@
--- `books::end_book` meets its contract: each return is a case of the definition at 00.
+-- `commands::end_book` meets its contract: each return is a case of the definition at 00.
 use native.Mathlib.Omega.{arith}
 use borrow.Author.Needs.{needs}
 use Prim.Native.Nat.{_-_}
 use mathlib.Core.Path.{_∙_, sym, ap}
 use Rattle.answers.specs.Outcome.{Outcome}
 use Rattle.cascades.specs.Rule.{Cascade}
 use Rattle.books.specs.Arrays.{Arrays, holding}
 use Rattle.books.specs.Resume.{readCommands, cascadeOutcome, faulted}
 use Rattle.books.specs.declared.BookAnswer.{BookAnswer}
 use Rattle.books.proofs.Commands.{end-fault, end-more, end-whole}
-use Rattle.books.proofs.end_book.Statement.{statement}
-use Rattle.books.proofs.end_book.Tie as tie
-use Rattle.books.proofs.end_book.Reads as reads
-use Rattle.books.proofs.end_book.Lts as lts
-use Rattle.books.proofs.closing_fault.Reads as closing-fault-reads
-use Rattle.books.proofs.refused.Reads as refused-reads
+use Rattle.commands.proofs.end_book.Statement.{statement}
+use Rattle.commands.proofs.end_book.Tie as tie
+use Rattle.commands.proofs.end_book.Reads as reads
+use Rattle.commands.proofs.end_book.Lts as lts
+use Rattle.commands.proofs.closing_fault.Reads as closing-fault-reads
+use Rattle.commands.proofs.refused.Reads as refused-reads
 
 abbrev arrays : tie.Start → Arrays
 arrays st = holding (st .args .rows .now) (st .args .lengths .now) (st .args .heads .now)
