@@ -1,4 +1,4 @@
 -- Laws of the rule's transducer, as the code writes it.
-pub mod Next
+pub mod Behind
 pub mod Words
 pub mod Ruled

@@ -25,8 +25,9 @@ use Rattle.workspace.specs.Entries.{OUTPUT, FINAL}
 use Rattle.workspace.specs.Cells.{Fits, part}
 use Rattle.workspace.specs.Holds.{RowAt, Roomy}
 use Rattle.workspace.proofs.Appending.{part-length}
-use Rattle.onerule.specs.Rule.{goes, says, keeps, afresh, restarts}
-use Rattle.onerule.proofs.Next.{goes-is, goes-le, goes-below, restarts-moves}
+use Rattle.matcher.specs.Next.{goes, restarts}
+use Rattle.onerule.specs.Rule.{says, keeps, afresh}
+use Rattle.matcher.proofs.Next.{goes-is, goes-le, goes-below, restarts-moves}
 
 part-lesser : (u : List ℕ) (p j : ℕ) → j ≤ length u → part (min p j) j u ≡ part p j u
 part-lesser u p j h = by (decLt p j)

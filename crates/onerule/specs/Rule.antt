@@ -1,29 +1,21 @@
 -- A rule whose transducer is to be written to the work slice.
 use Prim.Native.Nat.{ℕ, _+_, _-_, _≤_, _<_}
-use mathlib.Core.Path.{_≡_}
-use mathlib.Core.Bool.{true, false, _||_}
 use mathlib.Core.List.{List, [], _∷_, _++_}
-use lib.Dec.{eqb}
 use lib.ListN.{length, take}
 use Rattle.words.specs.Overlap.{overlap}
 use Rattle.words.specs.Pieces.{piecewise}
-use Rattle.borders.specs.Border.{border}
-use Rattle.cascades.specs.Rule.{once, Rule, ValidRule}
+use Rattle.cascades.specs.Rule.{Rule, ValidRule}
 use Rattle.cascades.specs.Rewrite.{apply}
 use Rattle.transducers.specs.Transducer.{Shape}
 use Rattle.transducers.specs.Tabulate.{Any}
-use Rattle.minimal.specs.Matcher.{held, said, moves}
-use Rattle.minimal.specs.OneRule.{borders}
+use Rattle.minimal.specs.Matcher.{held, said}
 use Rattle.workspace.specs.declared.Grid.{Grid}
-use Rattle.workspace.specs.Entries.{NEXT, FINAL}
-use Rattle.workspace.specs.Cells.{at, Sized, Kept, In-rows}
+use Rattle.workspace.specs.Entries.{FINAL}
+use Rattle.workspace.specs.Cells.{Sized, Kept, In-rows}
 use Rattle.workspace.specs.Holds.{Stands}
+use Rattle.matcher.specs.Next.{goes, restarts}
 
 -- Of a rule with the pattern u, the place p and the new tag t, from the state j on the tag a.
-
--- how many tags of u are matched then; all of them where they were before
-abbrev pub goes : List ℕ → ℕ → ℕ → ℕ
-goes u j a = moves (length u) (borders once u) j a
 
 -- what is put out, and what is held in j: the same for both kinds
 abbrev pub says : List ℕ → ℕ → ℕ → ℕ → ℕ → List ℕ
@@ -31,10 +23,6 @@ says u p t j a = said u p t j a (overlap u (take j u ++ (a ∷ [])))
 
 abbrev pub keeps : List ℕ → ℕ → ℕ → List ℕ
 keeps u p j = held u p j
-
--- the start after an end tag, and where there is no state for what is matched
-abbrev pub restarts : ℕ → ℕ → ℕ → ℕ → ℕ
-restarts count e a next = elim (eqb a e || eqb next count) [ true ↦ 0 | false ↦ next ]
 
 -- the states as they are written, so many
 abbrev pub afresh : ℕ → ℕ → List ℕ → ℕ → ℕ → Shape
@@ -45,11 +33,6 @@ pub record Room (g : Grid) (W u : List ℕ) (p : ℕ) : Type 0 where
   pub sized : Sized g W
   pub place-inside : p < length u
   pub deep : length u + FINAL ≤ g .depth
-
--- where some tags of u are matched, but not all, the row `back` has the next states of their longest border
-pub record Behind (g : Grid) (W : List ℕ) (back : ℕ) (u : List ℕ) (j : ℕ) : Type 0 where
-  pub inside : back < g .rows
-  pub next-is : 0 < j → j < length u → (a : ℕ) → a < g .tags → at g W back a NEXT ≡ goes u (border u j) a
 
 -- the rows from base hold a table of so many states that does what the rule does with each piece, and holds at most one tag less than a
 -- pattern may have

@@ -1,10 +1,13 @@
 // The transducer of one rule: it does what the rule does, and is the smallest one that does.
 // Time O(k l + w) for k tags, a pattern of l tags and w tags in the words that are written; space is the rows of the result, l + 1 or l for
 // an everywhere rule, and a number for each prefix.
-// From 002, definition 2, after Simon's string matching automaton: the states are the prefixes of the pattern, here by their lengths.
+// From 002, definition 2. `matcher` has its states, and where their steps lead.
 use borders::find_borders;
 use cascades::Rule;
 use limits::PATTERN;
+use matcher::count_states;
+use matcher::next_of;
+use matcher::restart;
 use words::lesser;
 use words::wide;
 use workspace::FINAL;
@@ -12,7 +15,6 @@ use workspace::Grid;
 use workspace::NEXT;
 use workspace::OUTPUT;
 use workspace::clear;
-use workspace::get;
 use workspace::push;
 use workspace::put;
 ghost use mathlib.Core.Path.{_≡_};
@@ -23,30 +25,11 @@ ghost use lib.ListN.{length};
 ghost use Rattle.borders.specs.Border.{Borders};
 ghost use Rattle.cascades.specs.Value.{ruleOf, Formed};
 ghost use Rattle.cascades.specs.Ending.{before};
-ghost use Rattle.minimal.specs.OneRule.{states};
 ghost use Rattle.workspace.specs.Entries.{OUTPUT, FINAL};
 ghost use Rattle.workspace.specs.Cells.{at, word, Sized, Written, part};
 ghost use Rattle.workspace.specs.Holds.{Stepped, Stepping, Rowed, Filling};
-ghost use Rattle.onerule.specs.Rule.{goes, says, keeps, afresh, restarts, Room, Behind, Ruled};
-
-// The state after the tag a where the first j tags were matched: one tag more, or where the row `back`, that of their longest border, leads.
-fn next_of(work: &[u16], g: Grid, back: usize, u: &[u8], j: usize, a: usize) -> usize
-    requires { ⌜ Sized g (now work) ⌝ }
-    requires { ⌜ Behind g (now work) back (now u) j ⌝ }
-    requires { ⌜ (0 < g .depth) × (a < g .tags) × (j ≤ length (now u)) ⌝ }
-    ensures { λ next. ⌜ next ≡ goes (now (u .entry)) j a ⌝ }
-{
-    if j == u.len() {
-        return j;
-    }
-    if wide(u[j]) == a {
-        return j + 1;
-    }
-    if j == 0 {
-        return 0;
-    }
-    get(work, g, back, a, NEXT)
-}
+ghost use Rattle.matcher.specs.Next.{goes, Behind};
+ghost use Rattle.onerule.specs.Rule.{says, keeps, afresh, Room, Ruled};
 
 // The tags of u from one place up to another, after the word at s.
 fn push_part(
@@ -104,16 +87,6 @@ fn write_output(
     }
     push_part(work, g, r, a, OUTPUT, u, lesser(place, j), j);
     push(work, g, r, a, OUTPUT, a);
-}
-
-// The state after the tag a: the start after an end tag, and after a match where no state lies behind it.
-fn restart(next: usize, a: usize, end: usize, count: usize) -> usize
-    ensures { λ r. ⌜ r ≡ restarts count end a next ⌝ }
-{
-    if a == end {
-        return 0;
-    }
-    if next == count { 0 } else { next }
 }
 
 fn write_step(
@@ -231,17 +204,6 @@ fn write_states(
         write_state(work, g, base, borders[j], u, place, tag, end, count, j);
         j += 1;
     }
-}
-
-// How many states the rule's transducer has: one behind a whole match, unless it begins again there.
-fn count_states(rule: Rule) -> usize
-    requires { ⌜ Formed rule ⌝ }
-    ensures { λ count. ⌜ count ≡ states (ruleOf rule .kind) (rule .length) ⌝ }
-{
-    if rule.everywhere {
-        return rule.length;
-    }
-    rule.length + 1
 }
 
 // The rule's transducer, which begins afresh after an end tag, to the rows from `base`: the number of its states.

@@ -1,4 +1,4 @@
-use Rattle.onerule.proofs.Next.{goes-le}
+use Rattle.matcher.proofs.Next.{goes-le}
 use Rattle.onerule.proofs.Words.{says-end, says-match, says-short, says-back-all}
 use Rattle.workspace.proofs.Words.{more-size, written-more, written-is}
 use Rattle.workspace.proofs.Appending.{part-length}

@@ -12,7 +12,7 @@ use Rattle.onerule.proofs.write_rule.Tie as tie
 use Rattle.onerule.proofs.write_rule.Reads as reads
 use Rattle.onerule.proofs.write_rule.Lts as lts
 use Rattle.borders.proofs.find_borders.Reads as find-borders-reads
-use Rattle.onerule.proofs.count_states.Reads as count-states-reads
+use Rattle.matcher.proofs.count_states.Reads as count-states-reads
 use Rattle.onerule.proofs.write_states.Reads as write-states-reads
 
 count-states-requires : tie.Need-count-states-requires

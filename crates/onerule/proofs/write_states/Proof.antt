@@ -1,5 +1,5 @@
 use Rattle.onerule.proofs.Words.{roomy-afresh}
-use Rattle.onerule.proofs.Next.{behind-filling}
+use Rattle.onerule.proofs.Behind.{behind-filling}
 use Rattle.onerule.specs.Rule.{afresh}
 use Rattle.workspace.proofs.Holds.{filling-start, filling-next}
 use Rattle.workspace.specs.Holds.{Filling}

@@ -1,7 +1,7 @@
 -- `onerule::write_step` meets its contract.
 use Rattle.onerule.proofs.Words.{restarts-below, roomy-afresh}
 use Rattle.workspace.specs.declared.Grid.{Grid}
-use Rattle.onerule.specs.Rule.{restarts}
+use Rattle.matcher.specs.Next.{restarts}
 use Rattle.workspace.specs.Holds.{Stepped}
 use Rattle.workspace.proofs.Holds.{stepped-after}
 use Prim.Native.Nat.{ℕ}
@@ -13,8 +13,8 @@ use Rattle.onerule.proofs.write_step.Statement.{statement}
 use Rattle.onerule.proofs.write_step.Tie as tie
 use Rattle.onerule.proofs.write_step.Reads as reads
 use Rattle.onerule.proofs.write_step.Lts as lts
-use Rattle.onerule.proofs.next_of.Reads as next-of-reads
-use Rattle.onerule.proofs.restart.Reads as restart-reads
+use Rattle.matcher.proofs.next_of.Reads as next-of-reads
+use Rattle.matcher.proofs.restart.Reads as restart-reads
 use Rattle.onerule.proofs.write_output.Reads as write-output-reads
 use Rattle.workspace.proofs.put.Reads as put-reads
 

@@ -1,5 +1,5 @@
 use Rattle.onerule.proofs.Words.{roomy-afresh}
-use Rattle.onerule.proofs.Next.{behind-kept}
+use Rattle.matcher.proofs.Next.{behind-kept}
 use Rattle.onerule.specs.Rule.{afresh}
 use Rattle.workspace.proofs.Holds.{stepping-start, stepping-next}
 use Rattle.workspace.specs.Holds.{Stepping}

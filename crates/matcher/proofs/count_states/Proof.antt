@@ -1,14 +1,14 @@
--- `onerule::count_states` meets its contract.
+-- `matcher::count_states` meets its contract.
 use native.Mathlib.Numerals.{add-one}
 use mathlib.Core.Path.{sym, ap, _∙_}
 use mathlib.Core.Bool.{Bool}
 use borrow.Author.Needs.{needs}
 use Rattle.cascades.specs.Value.{kindOf}
 use Rattle.minimal.specs.OneRule.{states}
-use Rattle.onerule.proofs.count_states.Statement.{statement}
-use Rattle.onerule.proofs.count_states.Tie as tie
-use Rattle.onerule.proofs.count_states.Reads as reads
-use Rattle.onerule.proofs.count_states.Lts as lts
+use Rattle.matcher.proofs.count_states.Statement.{statement}
+use Rattle.matcher.proofs.count_states.Tie as tie
+use Rattle.matcher.proofs.count_states.Reads as reads
+use Rattle.matcher.proofs.count_states.Lts as lts
 
 returns : tie.Need-returns
 returns c = search needs

@@ -1,14 +1,14 @@
--- `onerule::next_of` meets its contract.
-use Rattle.onerule.proofs.Next.{goes-end, goes-on, goes-first, goes-back}
+-- `matcher::next_of` meets its contract.
+use Rattle.matcher.proofs.Next.{goes-end, goes-on, goes-first, goes-back}
 use mathlib.Core.Path.{_∙_, sym}
 use lib.ListN.{length}
 use native.Mathlib.Omega.{arith}
 use Prim.Native.Nat.{_<_}
 use borrow.Author.Needs.{needs}
-use Rattle.onerule.proofs.next_of.Statement.{statement}
-use Rattle.onerule.proofs.next_of.Tie as tie
-use Rattle.onerule.proofs.next_of.Reads as reads
-use Rattle.onerule.proofs.next_of.Lts as lts
+use Rattle.matcher.proofs.next_of.Statement.{statement}
+use Rattle.matcher.proofs.next_of.Tie as tie
+use Rattle.matcher.proofs.next_of.Reads as reads
+use Rattle.matcher.proofs.next_of.Lts as lts
 use Rattle.words.proofs.wide.Reads as wide-reads
 use Rattle.workspace.proofs.get.Reads as get-reads
 

@@ -14,7 +14,7 @@ use Rattle.words.specs.Overlap.{overlap}
 use Rattle.words.proofs.Word.{prefix-front}
 use Rattle.words.proofs.Overlap.{overlap-prefix}
 use Rattle.borders.specs.Border.{border}
-use Rattle.borders.proofs.Border.{overlap-grown, border-le, border-below, grown-none, grown-shorter, grown-longer, grown}
+use Rattle.borders.proofs.Border.{overlap-grown, border-below, grown-none, grown-shorter, grown-longer, grown}
 use Rattle.cascades.specs.Rule.{Kind, once, everywhere}
 use Rattle.cascades.specs.Value.{rule}
 use Rattle.cascades.specs.Ending.{before}
@@ -26,8 +26,7 @@ use Rattle.minimal.proofs.Ending.{none-matched}
 use Rattle.workspace.specs.declared.Grid.{Grid}
 use Rattle.workspace.specs.Entries.{NEXT}
 use Rattle.workspace.specs.Cells.{Kept, In-rows}
-use Rattle.workspace.specs.Holds.{Filling}
-use Rattle.onerule.specs.Rule.{goes, afresh, restarts, Behind}
+use Rattle.matcher.specs.Next.{goes, restarts, Behind}
 
 module _ (count e a next : ℕ) where
   pub restarts-end : a ≡ e → 0 ≡ restarts count e a next
@@ -74,7 +73,7 @@ module _ (u : List ℕ) where
       goes-grown (border u j) a (omega (arith, border-below u j some (omega arith))) ∙ sym (goes-grown j a h ∙ grown-shorter u a j h other some)
 
   -- an end tag leads to the start anyway where it is not the pattern's last tag that is due
-  restarts-back : (count e : ℕ) → length u ≤ count → before e u ≡ false → (j a : ℕ) → j + 1 < length u → restarts count e a (goes u j a) ≡ goes u j a
+  pub restarts-back : (count e : ℕ) → length u ≤ count → before e u ≡ false → (j a : ℕ) → j + 1 < length u → restarts count e a (goes u j a) ≡ goes u j a
   restarts-back count e most free j a h =
       let low : overlap u (take j u ++ (a ∷ [])) < length u = omega (arith, overlap-step u j a (omega arith) .0) in
       let is = goes-is j a (omega arith) in
@@ -115,16 +114,3 @@ module _ (g : Grid) (u : List ℕ) (j : ℕ) where
         inside = b .inside;
         next-is = λ some h a ha. kept .same back a NEXT (omega arith) deep (λ i. omega (arith, i .0, earlier some)) ∙ b .next-is some h a ha;
       }
-
-  -- the rows before j are written
-  pub behind-filling : (W X : List ℕ) (base n p t e b : ℕ) → length u ≤ n → before e u ≡ false → b ≡ border u j → j ≤ length u → base + j < g .rows
-      → Filling g W X base n (afresh n e u p t) j → Behind g X (base + b) u j × (0 < j → b < j)
-  behind-filling W X base n p t e b most free is h room f = (
-    record {
-      inside = omega (arith, is, border-le u j h);
-      next-is = λ some l a ha.
-          let lower = border-below u j some h in
-          f .states b (omega (arith, is)) .steps a ha .next-is ∙ restarts-back u n e most free b a (omega (arith, is)) ∙ ap (λ (q : ℕ). goes u q a) is;
-    },
-    λ some. omega (arith, is, border-below u j some h),
-  )

@@ -1,0 +1,2 @@
+-- Laws of the next state.
+pub mod Next

@@ -1,0 +1,2 @@
+-- The states of a rule's transducer as numbers.
+pub mod Next
