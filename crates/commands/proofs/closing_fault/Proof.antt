@@ -1,4 +1,4 @@
--- `commands::closing_fault` meets its contract: each return is a case of `fault` at the last rule.
+-- `commands::closing_fault` meets its contract: each return is a case of `closing` at the last rule.
 use Prim.Native.Nat.{_-_}
 use native.Mathlib.Omega.{arith}
 use borrow.Author.Needs.{needs}
