@@ -16,9 +16,9 @@ use Rattle.tagger.specs.Run.{bookRun}
 use Rattle.tables.specs.Run.{tableRun}
 use Rattle.packing.specs.Packed.{packed, Legible}
 use Rattle.typing.specs.Typing.{Handed, opened, give, look, close}
-use Rattle.typing.specs.Session.{Call, gives, closes, call, takes, brings, Session, proceed, proceeds, session}
 use Rattle.typing.specs.declared.Sentence.{Sentence}
-use Rattle.typing.proofs.Theorems.{closed-is-run, looked-is-run}
+use Rattle.sessions.specs.Session.{Call, gives, closes, call, takes, brings, Session, proceed, proceeds, session}
+use Rattle.sessions.proofs.Theorems.{closed-is-run, looked-is-run}
 use Rattle.handing.specs.Typing.{Numbers, sentenceOf, flag, numbersOf, handedOn, openedAs, openedOn, TypeCall}
 use Rattle.handing.proofs.Legible.{legible-open, legible-give, legible-held, legible-close}
 use Rattle.nedzsuka.proofs.Demand.{CompileCall, RunCall, made-counted, means-result, same-run}

@@ -6,44 +6,20 @@ use mathlib.Core.Bool.{true, false}
 use mathlib.Core.List.{List, [], _∷_}
 use Rattle.answers.specs.Outcome.{result, refused, nothing}
 use Rattle.typing.specs.Typing.{opened, give, look, close}
-use Rattle.typing.specs.Session.{gives, looks, closes, session}
 use Rattle.typing.specs.declared.Sentence.{Sentence}
 
-abbrev table-a : List ℕ
+abbrev pub table-a : List ℕ
 table-a =
     0x30 ∷ 2 ∷ 0 ∷ 3
     ∷ 0x31 ∷ 0 ∷ 0x33 ∷ 0 ∷ 1 ∷ 0x33 ∷ 0 ∷ 0 ∷ 0x34 ∷ 1
     ∷ 0x31 ∷ 1 ∷ 0x32 ∷ 0 ∷ 0x33 ∷ 0 ∷ 1 ∷ 0x34 ∷ 0 ∷ 0x33 ∷ 0 ∷ 2 ∷ 0x34 ∷ 1 ∷ 0x34 ∷ 1
     ∷ 0x31 ∷ 0 ∷ 0x33 ∷ 0 ∷ 2 ∷ 0x34 ∷ 0 ∷ 0x33 ∷ 0 ∷ 2 ∷ 0x34 ∷ 1 ∷ 0 ∷ []
 
-abbrev at : ℕ → ℕ → Sentence
+abbrev pub at : ℕ → ℕ → Sentence
 at state given = record { state = state; given = given; closed = false }
 
 opens : opened table-a ≡ result (at 0 0)
 opens = refl
-
--- 0 0 1 0 1 with a look, a wrong tag, a give without room and one after the close between: 0 1 1 0 1, as document 01 says
-typed :
-    session table-a (at 0 0)
-    (gives 0 0
-    ∷ looks 1
-    ∷ gives 0 1
-    ∷ gives 2 9
-    ∷ gives 1 1
-    ∷ gives 1 2
-    ∷ looks 0
-    ∷ gives 0 1
-    ∷ gives 1 1
-    ∷ closes 0
-    ∷ gives 0 9
-    ∷ closes 9
-    ∷ [])
-    ≡ record {
-      sentence = record { state = 2; given = 5; closed = true };
-      taken = 0 ∷ 0 ∷ 1 ∷ 0 ∷ 1 ∷ [];
-      out = 0 ∷ 1 ∷ 1 ∷ 0 ∷ 1 ∷ [];
-    }
-typed = refl
 
 -- a 0 that is held is what a look shows and what a close puts out
 shows : look table-a (at 1 1) 1 ≡ record { sentence = at 1 1; put = result (0 ∷ []) }

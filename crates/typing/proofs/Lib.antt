@@ -3,6 +3,5 @@ pub mod Stands
 pub mod Gives
 pub mod Holds
 pub mod Ends
-pub mod Session
 pub mod Theorems
 pub mod Examples

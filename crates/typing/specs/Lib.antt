@@ -1,3 +1,2 @@
--- Typing: what each call hands back, and what any list of calls comes to.
+-- Typing: what each call hands back.
 pub mod Typing
-pub mod Session

@@ -16,10 +16,10 @@ use Rattle.transducers.specs.Transducer.{Shape, puts}
 use Rattle.transducers.specs.Table.{Step, row, step, shape}
 use Rattle.tables.specs.Valid.{ValidTable}
 use Rattle.tables.specs.Decode.{Decoded, decode}
 use Rattle.typing.specs.Typing.{standing, admits, stepped, held, moved, shut}
-use Rattle.typing.specs.Session.{Call, gives, looks, closes, call, takes, brings, Session, proceed, proceeds}
+use Rattle.sessions.specs.Session.{Call, gives, looks, closes, call, takes, brings, Session, proceed, proceeds}
 use Rattle.typing.specs.declared.Sentence.{Sentence}
 use Rattle.typing.proofs.Stands.{stands, Taken, taken}
 
 -- ---- calls that change nothing
 

@@ -1,0 +1,2 @@
+-- What any list of calls comes to.
+pub mod Session
