@@ -10,12 +10,11 @@ use Rattle.answers.specs.declared.Refusal.the-variants.{AtByte, AtRule, Bare}
 use Rattle.answers.specs.declared.WriteAnswer.{WriteAnswer}
 use Rattle.answers.specs.declared.WriteAnswer.the-variants.{Written, Refused}
 use Rattle.packing.specs.Packed.{packed, Legible}
-use Rattle.typing.specs.Typing.{Handed, opened, openOutcome, Hands}
+use Rattle.typing.specs.Typing.{Handed, openOutcome, Hands}
 use Rattle.typing.specs.declared.Sentence.{Sentence}
 use Rattle.typing.specs.declared.Opened.{Opened}
 use Rattle.typing.specs.declared.Typed.{Typed}
 use Rattle.handing.specs.Typing.{Numbers, flag, handedOn, openedAs, openedOn, TypeCall}
-use Rattle.handing.proofs.Legible.{legible-open}
 
 -- ---- what is handed on
 
@@ -54,27 +53,26 @@ module _ (h : Handed) (before after : List ℕ) (typed : Typed) (hands : Hands h
 
 -- ---- opening
 
-module _ (table : List ℕ) (r : Opened) (answered : openOutcome r ≡ opened table) (n : Numbers) where
+module _ (r : Opened) (n : Numbers) where
   pub open-done : (s : Sentence) → r ≡ Opened.Open s → (n' : Numbers) (number : ℕ) → number ≡ packed (result 0) → n' ≡ handedOn {A = ℕ} (result 0) s n
-      → (number ≡ packed (openedAs (opened table))) × (n' ≡ openedOn (opened table) n)
+      → (number ≡ packed (openedAs (openOutcome r))) × (n' ≡ openedOn (openOutcome r) n)
   open-done s e n' number f g =
-      let o : opened table ≡ result s = sym answered ∙ ap openOutcome e in
+      let o : openOutcome r ≡ result s = ap openOutcome e in
       (f ∙ ap (λ (x : Outcome Sentence). packed (openedAs x)) (sym o), g ∙ ap (λ (x : Outcome Sentence). openedOn x n) (sym o))
 
   module _ (y : Refusal) (e : r ≡ Opened.Refused y) where
-    refused-as : opened table ≡ refusal y
-    refused-as = sym answered ∙ ap openOutcome e
+    refused-as : openOutcome r ≡ refusal y
+    refused-as = ap openOutcome e
 
     kept : (y : Refusal) → (openedAs (refusal y) ≡ refusal y) × (n ≡ openedOn (refusal y) n)
     kept (AtByte j i) = (refl, refl)
     kept (AtRule j i) = (refl, refl)
     kept (Bare j) = (refl, refl)
 
-    pub legible-refused : Legible (refusal y)
-    legible-refused =
-        subst Legible (ap openedAs refused-as ∙ kept y .0) (legible-open table)
+    pub legible-refused : Legible (openedAs (openOutcome r)) → Legible (refusal y)
+    legible-refused l = subst Legible (ap openedAs refused-as ∙ kept y .0) l
 
-    pub open-refused : (number : ℕ) → number ≡ packed (refusal y) → (number ≡ packed (openedAs (opened table))) × (n ≡ openedOn (opened table) n)
+    pub open-refused : (number : ℕ) → number ≡ packed (refusal y) → (number ≡ packed (openedAs (openOutcome r))) × (n ≡ openedOn (openOutcome r) n)
     open-refused number f = (
       f ∙ ap packed (sym (ap openedAs refused-as ∙ kept y .0)),
       kept y .1 ∙ ap (λ (x : Outcome Sentence). openedOn x n) (sym refused-as),

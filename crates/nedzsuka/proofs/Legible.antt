@@ -43,7 +43,7 @@ use Rattle.compilation.proofs.Parts.{whole-few}
 use Rattle.starter.specs.Starter.{starterAnswer}
 use Rattle.starter.proofs.Starter.{bytes, computed, long}
 use Rattle.packing.specs.Packed.{Legible, LegibleByte}
-use Rattle.nedzsuka.specs.Sizes.{bookSize, bookSizes, tableSize, tableSizes}
+use Rattle.sizing.specs.Sizes.{bookSize, bookSizes, tableSize, tableSizes}
 
 -- 12, and what 11 is given for
 malformed-told : Legible (refused 12 nothing)

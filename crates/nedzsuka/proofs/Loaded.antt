@@ -20,7 +20,7 @@ use Rattle.loaded.specs.Numbers.{numbers}
 use Rattle.loaded.specs.Run.{loadedRun, loadAnswer}
 use Rattle.loaded.proofs.Theorems.{runs-as-table, enough}
 use Rattle.packing.specs.Packed.{packed}
-use Rattle.nedzsuka.specs.Sizes.{tableSize, tableSizes}
+use Rattle.sizing.specs.Sizes.{tableSize, tableSizes}
 use Rattle.nedzsuka.proofs.Legible.{legible-load}
 use Rattle.nedzsuka.proofs.Demand.{CompileCall, RunCall, means-result, refused-writes, same-run}
 

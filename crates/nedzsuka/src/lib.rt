@@ -1,21 +1,15 @@
 // The functions for C (document 01, "host door"): compile and the run of a book, both also with an end tag, the starter table, the run that tells
 // the rules, the runs of a table and of a loaded one, loading, the two readers and typing, each answering one number.
 // include/nedzsuka.h tells a host what they promise.
-use answers::WriteAnswer;
-use books::BookAnswer;
-use decoder::TableAnswer;
 use handing::hand_on;
+use handing::hand_opened;
 use handing::sentence_of;
-use packing::pack;
-use packing::pack_byte;
 use packing::pack_compile;
-use packing::pack_refusal;
 use packing::pack_run;
 use packing::pack_written;
-use typing::Opened;
+use sizing::pack_book;
+use sizing::pack_table;
 use typing::Sentence;
-use typing::Typed;
-use words::wide;
 ghost use mathlib.Core.Path.{_≡_};
 ghost use Prim.Native.Nat.{min};
 ghost use lib.ListN.{length};
@@ -30,9 +24,9 @@ ghost use Rattle.compilation.specs.Compile.{tested, compileAnswer};
 ghost use Rattle.compiler.specs.Answer.{worked};
 ghost use Rattle.starter.specs.Starter.{starterAnswer};
 ghost use Rattle.packing.specs.Packed.{packed, packedByte};
+ghost use Rattle.sizing.specs.Sizes.{bookSizes, tableSizes};
 ghost use Rattle.typing.specs.Typing.{opened, give, look, close};
 ghost use Rattle.handing.specs.Typing.{sentenceOf, openedAs, openedOn, TypeCall};
-ghost use Rattle.nedzsuka.specs.Sizes.{bookSizes, tableSizes};
 
 // compiler::compile_ending: the number of the table's bytes, or the refusal.
 #[no_mangle]
@@ -153,10 +147,7 @@ pub extern "C" fn nedzsuka_run_loaded(loaded: &[u32], sentence: &[u8], out: &mut
 pub extern "C" fn nedzsuka_read_book(book: &[u8]) -> u64
     ensures { λ r. ⌜ r ≡ packedByte (bookSizes (now (book .entry))) ⌝ }
 {
-    match reader::read_book(book) {
-        BookAnswer::Book { tags, rules } => pack(wide(tags) * 256 + rules, 0),
-        BookAnswer::Refused(given) => pack_byte(given),
-    }
+    pack_book(reader::read_book(book))
 }
 
 // transduction::read_table: K × 65,536 + S, or 12.
@@ -164,10 +155,7 @@ pub extern "C" fn nedzsuka_read_book(book: &[u8]) -> u64
 pub extern "C" fn nedzsuka_read_table(table: &[u8]) -> u64
     ensures { λ r. ⌜ r ≡ packed (tableSizes (now (table .entry))) ⌝ }
 {
-    match transduction::read_table(table) {
-        TableAnswer::Table { tags, states } => pack(tags * 65536 + states, 0),
-        TableAnswer::Refused(given) => pack_refusal(given),
-    }
+    pack_table(transduction::read_table(table))
 }
 
 // Sentence::open: 0, or 12.
@@ -181,13 +169,7 @@ pub extern "C" fn nedzsuka_open(
     ensures answer { λ r. ⌜ r ≡ packed (openedAs (opened (now (table .entry)))) ⌝ }
     ensures numbers { λ r. ⌜ (record { state = now (state .exit); given = now (given .exit); closed = now (closed .exit) }) ≡ openedOn (opened (now (table .entry))) (record { state = now (state .entry); given = now (given .entry); closed = now (closed .entry) }) ⌝ }
 {
-    match Sentence::open(table) {
-        Opened::Open(sentence) => {
-            let answer = WriteAnswer::Written(0);
-            hand_on(Typed { sentence, answer }, state, given, closed)
-        }
-        Opened::Refused(refusal) => pack_refusal(refusal),
-    }
+    hand_opened(Sentence::open(table), state, given, closed)
 }
 
 // Sentence::give: the number of tags put out, or the refusal.

@@ -1,2 +1,0 @@
--- What reading a book or a table answers to C.
-pub mod Sizes

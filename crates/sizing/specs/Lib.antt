@@ -1,0 +1,2 @@
+-- Both sizes as one number.
+pub mod Sizes
