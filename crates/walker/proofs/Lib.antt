@@ -1,4 +1,2 @@
--- Laws of the walk.
-pub mod Words
-pub mod Turns
+-- Laws of the run.
 pub mod Runs

@@ -25,7 +25,8 @@ use Rattle.sentences.proofs.Run.{RunEnds, too-long, high-tag, no-room, made-of,
 use Rattle.tables.proofs.Outcomes.{Read, gave, refuses}
 use Rattle.loaded.specs.Run.{way, sound, loadedRun}
 use Rattle.loaded.proofs.Refusal.{way-read}
-use Rattle.walker.specs.Walk.{Walkable, Walked, wayRun}
+use Rattle.ways.specs.Walk.{Walkable, Walked}
+use Rattle.walker.specs.Run.{wayRun}
 
 -- a run that is refused with 12
 pub ran-12 : (o : Outcome (List ℕ)) (s out : List ℕ) → o ≡ refused 12 nothing → (r : RunAnswer) → runOutcome r ≡ refused 12 nothing → Ran o s out out r

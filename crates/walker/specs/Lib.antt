@@ -1,2 +1,2 @@
 -- The run of a loaded table.
-pub mod Walk
+pub mod Run

@@ -5,7 +5,8 @@ use mathlib.Core.Path.{refl, sym, subst}
 use borrow.Author.Tests.{not-true, not-false}
 use lib.ListN.{length}
 use lib.Seq.{length-take-le}
-use Rattle.walker.specs.Walk.{Walked, wayRun}
+use Rattle.ways.specs.Walk.{Walked}
+use Rattle.walker.specs.Run.{wayRun}
 use Rattle.walker.proofs.Runs.{ran-12, way-lost, way-high, way-whole}
 use borrow.Author.Needs.{needs}
 use Rattle.walker.proofs.run_in.Statement.{statement}
@@ -15,7 +16,7 @@ use Rattle.walker.proofs.run_in.Lts as lts
 use Rattle.sentences.proofs.copy.Reads as copy-reads
 use Rattle.sentences.proofs.count_changes.Reads as count-changes-reads
 use Rattle.sentences.proofs.highest_of.Reads as highest-of-reads
-use Rattle.walker.proofs.walk.Reads as walk-reads
+use Rattle.ways.proofs.walk.Reads as walk-reads
 use Rattle.words.proofs.wide.Reads as wide-reads
 
 wide-requires : tie.Need-wide-requires

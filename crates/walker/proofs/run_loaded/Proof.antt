@@ -10,7 +10,7 @@ use Rattle.walker.proofs.run_loaded.Tie as tie
 use Rattle.walker.proofs.run_loaded.Reads as reads
 use Rattle.walker.proofs.run_loaded.Lts as lts
 use Rattle.sentences.proofs.admit.Reads as admit-reads
-use Rattle.walker.proofs.number_at.Reads as number-at-reads
+use Rattle.ways.proofs.number_at.Reads as number-at-reads
 use Rattle.walker.proofs.run_beyond.Reads as run-beyond-reads
 use Rattle.walker.proofs.run_short.Reads as run-short-reads
 

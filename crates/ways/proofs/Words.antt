@@ -11,7 +11,7 @@ use lib.Seq.{length-take-le, take-length, take-append-le, take-append-add, getD-
 use Rattle.answers.specs.Outcome.{Outcome, result}
 use Rattle.tables.specs.Decode.{malformed}
 use Rattle.loaded.specs.Run.{byteOf, above, wordOf}
-use Rattle.walker.specs.Walk.{Put, Copied}
+use Rattle.ways.specs.Walk.{Put, Copied}
 
 take-map : (f : ℕ → ℕ) (n : ℕ) (l : List ℕ) → take n (map f l) ≡ map f (take n l)
 take-map f zero l = refl

@@ -14,7 +14,7 @@ use Rattle.answers.specs.Outcome.{Outcome, result, refused, andThen, provided}
 use Rattle.tables.specs.Decode.{malformed}
 use Rattle.loaded.specs.Numbers.{rowSize, resting}
 use Rattle.loaded.specs.Run.{wordOf, way}
-use Rattle.walker.specs.Walk.{PutWord, Put, Copied, Walked}
+use Rattle.ways.specs.Walk.{PutWord, Put, Copied, Walked}
 
 -- an outcome goes on to what stands in front of it
 abbrev after : List ℕ → Outcome (List ℕ) → Outcome (List ℕ)

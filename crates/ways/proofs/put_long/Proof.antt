@@ -1,12 +1,12 @@
--- `walker::put_long` meets its contract.
+-- `ways::put_long` meets its contract.
 use native.Mathlib.Omega.{arith}
-use Rattle.walker.proofs.Words.{put-none, put-full, put-long}
+use Rattle.ways.proofs.Words.{put-none, put-full, put-long}
 use borrow.Author.Needs.{needs}
-use Rattle.walker.proofs.put_long.Statement.{statement}
-use Rattle.walker.proofs.put_long.Tie as tie
-use Rattle.walker.proofs.put_long.Reads as reads
-use Rattle.walker.proofs.put_long.Lts as lts
-use Rattle.walker.proofs.put_numbers.Reads as put-numbers-reads
+use Rattle.ways.proofs.put_long.Statement.{statement}
+use Rattle.ways.proofs.put_long.Tie as tie
+use Rattle.ways.proofs.put_long.Reads as reads
+use Rattle.ways.proofs.put_long.Lts as lts
+use Rattle.ways.proofs.put_numbers.Reads as put-numbers-reads
 
 add-if1 : tie.Need-add-if1
 add-if1 c = search needs

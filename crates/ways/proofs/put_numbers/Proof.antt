@@ -1,4 +1,4 @@
--- `walker::put_numbers` meets its contract.
+-- `ways::put_numbers` meets its contract.
 use native.Mathlib.Omega.{arith}
 use borrow.Author.Needs.{needs}
 use Prim.Native.Nat.{_-_, _≤_}
@@ -7,11 +7,11 @@ use mathlib.Core.List.{map}
 use lib.ListN.{length, drop, length-set}
 use lib.Seq.{paste, paste-zero}
 use Rattle.loaded.specs.Run.{byteOf}
-use Rattle.walker.proofs.Words.{numbers-next}
-use Rattle.walker.proofs.put_numbers.Statement.{statement}
-use Rattle.walker.proofs.put_numbers.Tie as tie
-use Rattle.walker.proofs.put_numbers.Reads as reads
-use Rattle.walker.proofs.put_numbers.Lts as lts
+use Rattle.ways.proofs.Words.{numbers-next}
+use Rattle.ways.proofs.put_numbers.Statement.{statement}
+use Rattle.ways.proofs.put_numbers.Tie as tie
+use Rattle.ways.proofs.put_numbers.Reads as reads
+use Rattle.ways.proofs.put_numbers.Lts as lts
 
 abbrev Inv-loop : tie.InvT-loop
 Inv-loop ns place count buf₀ at j₀ buf j = (j ≤ count) × (length buf ≡ length buf₀) × (buf ≡ paste buf₀ at (map byteOf (drop place ns)) j)

@@ -1,19 +1,19 @@
--- `walker::walk` meets its contract. The loop's invariant: the whole way is what stands in the buffer and the way from here.
+-- `ways::walk` meets its contract. The loop's invariant: the whole way is what stands in the buffer and the way from here.
 use Prim.Native.Nat.{ℕ, _-_}
 use native.Mathlib.Omega.{arith}
 use borrow.Author.Needs.{needs}
 use mathlib.Core.Path.{sym, subst, _∙_}
 use lib.ListN.{length}
 use Rattle.words.proofs.Word.{below-at}
-use Rattle.walker.specs.Walk.{PutWord, Put}
-use Rattle.walker.proofs.Turns.{Going, going-start, walked-none, entry-at, next-at, turn-stops, turn-on, turn-off, turn-rests, walk-end}
-use Rattle.walker.proofs.walk.Statement.{statement}
-use Rattle.walker.proofs.walk.Tie as tie
-use Rattle.walker.proofs.walk.Reads as reads
-use Rattle.walker.proofs.walk.Lts as lts
-use Rattle.walker.proofs.copy_rest.Reads as copy-rest-reads
-use Rattle.walker.proofs.number_at.Reads as number-at-reads
-use Rattle.walker.proofs.put.Reads as put-reads
+use Rattle.ways.specs.Walk.{PutWord, Put}
+use Rattle.ways.proofs.Turns.{Going, going-start, walked-none, entry-at, next-at, turn-stops, turn-on, turn-off, turn-rests, walk-end}
+use Rattle.ways.proofs.walk.Statement.{statement}
+use Rattle.ways.proofs.walk.Tie as tie
+use Rattle.ways.proofs.walk.Reads as reads
+use Rattle.ways.proofs.walk.Lts as lts
+use Rattle.ways.proofs.copy_rest.Reads as copy-rest-reads
+use Rattle.ways.proofs.number_at.Reads as number-at-reads
+use Rattle.ways.proofs.put.Reads as put-reads
 use Rattle.words.proofs.lesser.Reads as lesser-reads
 use Rattle.words.proofs.wide.Reads as wide-reads
 

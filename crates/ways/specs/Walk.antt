@@ -1,4 +1,4 @@
--- What the parts of a loaded table's run promise one another.
+-- What the parts of the walk of a sentence's way through a loaded table promise one another.
 use Prim.Native.Nat.{ℕ, _+_, _≤_, _<_}
 use mathlib.Core.Path.{_≡_}
 use mathlib.Core.Bool.{Bool, true, false}
@@ -6,8 +6,8 @@ use mathlib.Core.List.{List, _++_}
 use lib.ListN.{length, take, drop}
 use Rattle.limits.specs.Limits.{most-tags, longest-sentence}
 use Rattle.words.specs.Word.{Below}
-use Rattle.answers.specs.Outcome.{Outcome, result, andThen}
-use Rattle.loaded.specs.Run.{wordOf, way, sound}
+use Rattle.answers.specs.Outcome.{result}
+use Rattle.loaded.specs.Run.{wordOf, way}
 
 -- a word has been put to the buffer from one place to another
 pub record PutWord (ns : List ℕ) (e : ℕ) (before after : List ℕ) (at to : ℕ) : Type 0 where
@@ -39,7 +39,3 @@ pub record Copied (r : Bool) (sentence : List ℕ) (from : ℕ) (before after : 
 pub record Walked (r : Bool) (ns : List ℕ) (k : ℕ) (sentence after : List ℕ) : Type 0 where
   pub so : r ≡ true → way ns k 1 sentence ≡ result (take (length sentence) after)
   pub not : r ≡ false → (made : List ℕ) → way ns k 1 sentence ≡ result made → length made ≡ length sentence → ⊥
-
--- the run of a sentence that is not refused
-abbrev pub wayRun : List ℕ → ℕ → List ℕ → Outcome (List ℕ)
-wayRun ns k sentence = andThen (way ns k 1 sentence) (sound k sentence)

@@ -1,13 +1,13 @@
--- `walker::put` meets its contract.
+-- `ways::put` meets its contract.
 use native.Mathlib.Omega.{arith}
 use lib.ListN.{length-set}
-use Rattle.walker.proofs.Words.{put-short}
+use Rattle.ways.proofs.Words.{put-short}
 use borrow.Author.Needs.{needs}
-use Rattle.walker.proofs.put.Statement.{statement}
-use Rattle.walker.proofs.put.Tie as tie
-use Rattle.walker.proofs.put.Reads as reads
-use Rattle.walker.proofs.put.Lts as lts
-use Rattle.walker.proofs.put_long.Reads as put-long-reads
+use Rattle.ways.proofs.put.Statement.{statement}
+use Rattle.ways.proofs.put.Tie as tie
+use Rattle.ways.proofs.put.Reads as reads
+use Rattle.ways.proofs.put.Lts as lts
+use Rattle.ways.proofs.put_long.Reads as put-long-reads
 
 put-long-requires : tie.Need-put-long-requires
 put-long-requires c κs = search needs

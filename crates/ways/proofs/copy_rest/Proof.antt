@@ -1,15 +1,15 @@
--- `walker::copy_rest` meets its contract.
+-- `ways::copy_rest` meets its contract.
 use native.Mathlib.Omega.{arith}
 use borrow.Author.Needs.{needs}
 use Prim.Native.Nat.{_-_, _≤_}
 use mathlib.Core.Path.{_≡_, refl, ap, _∙_}
 use lib.ListN.{length, drop, length-set}
 use lib.Seq.{paste, paste-zero}
-use Rattle.walker.proofs.Words.{rest-next, rest-other, rest-whole}
-use Rattle.walker.proofs.copy_rest.Statement.{statement}
-use Rattle.walker.proofs.copy_rest.Tie as tie
-use Rattle.walker.proofs.copy_rest.Reads as reads
-use Rattle.walker.proofs.copy_rest.Lts as lts
+use Rattle.ways.proofs.Words.{rest-next, rest-other, rest-whole}
+use Rattle.ways.proofs.copy_rest.Statement.{statement}
+use Rattle.ways.proofs.copy_rest.Tie as tie
+use Rattle.ways.proofs.copy_rest.Reads as reads
+use Rattle.ways.proofs.copy_rest.Lts as lts
 
 abbrev Inv-loop : tie.InvT-loop
 Inv-loop sentence from buf₀ at count j₀ buf j = (j ≤ count) × (length buf ≡ length buf₀) × (buf ≡ paste buf₀ at (drop from sentence) j)

@@ -1,0 +1,3 @@
+-- Laws of the walk.
+pub mod Words
+pub mod Turns

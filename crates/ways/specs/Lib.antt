@@ -1,0 +1,2 @@
+-- A sentence's way through a loaded table.
+pub mod Walk
