@@ -25,7 +25,8 @@ use Rattle.loaded.specs.Numbers.{rowAt, rowBehind, firstResting, rowsNumbers, n
 use Rattle.loaded.specs.Run.{loadAnswer, LoadRan}
 use Rattle.loaded.proofs.Rows.{rows-numbers-length}
 use Rattle.loaded.proofs.Count.{numbers-few}
-use Rattle.loader.specs.Parts.{Base, Source, RowsWritten}
+use Rattle.entries.specs.State.{Base}
+use Rattle.rows.specs.Parts.{Source, RowsWritten}
 
 pub is-loaded : (bs : List ℕ) (k : ℕ) (ix : List ℕ) (r : Bool) → LoadedIf r bs k ix → r ≡ true → Loaded bs k ix
 is-loaded bs k ix true h e = h

@@ -7,17 +7,17 @@ use borrow.Author.Needs.{needs}
 use lib.ListN.{length, set, length-set}
 use Rattle.tables.proofs.Words.{below-of}
 use Rattle.loaded.specs.Numbers.{numbers}
-use Rattle.loader.specs.Parts.{RowsWritten}
+use Rattle.rows.specs.Parts.{RowsWritten}
 use Rattle.loader.proofs.Loads.{is-loaded, load-malformed, states, as-encoded, load-short, numbers-long, source, load-whole}
 use Rattle.loader.proofs.load_within.Statement.{statement}
 use Rattle.loader.proofs.load_within.Tie as tie
 use Rattle.loader.proofs.load_within.Reads as reads
 use Rattle.loader.proofs.load_within.Lts as lts
 use Rattle.decoder.proofs.load.Reads as load-reads
+use Rattle.entries.proofs.first_resting.Reads as first-resting-reads
 use Rattle.loader.proofs.first_number.Reads as first-number-reads
-use Rattle.loader.proofs.first_resting.Reads as first-resting-reads
-use Rattle.loader.proofs.fits.Reads as fits-reads
-use Rattle.loader.proofs.write_rows.Reads as write-rows-reads
+use Rattle.measuring.proofs.fits.Reads as fits-reads
+use Rattle.rows.proofs.write_rows.Reads as write-rows-reads
 
 load-requires : tie.Need-load-requires
 load-requires c κs = search needs

@@ -1,0 +1,3 @@
+-- Laws of entries and their numbers.
+pub mod Numbers
+pub mod Resting

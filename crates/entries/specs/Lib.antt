@@ -1,0 +1,2 @@
+-- A state by its entries in an index.
+pub mod State

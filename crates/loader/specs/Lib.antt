@@ -1,2 +1,0 @@
--- Loading a table.
-pub mod Parts

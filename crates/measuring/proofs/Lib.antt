@@ -1,0 +1,2 @@
+-- Laws of measuring.
+pub mod Total

@@ -1,0 +1,4 @@
+-- Laws of writing rows.
+pub mod Steps
+pub mod Rows
+pub mod Tables

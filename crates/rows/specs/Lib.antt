@@ -1,0 +1,2 @@
+-- Writing the rows of a loaded table.
+pub mod Parts
