@@ -22,7 +22,8 @@ use Rattle.workspace.specs.Holds.{Ready, Stands, tableAt}
 use Rattle.workspace.proofs.Regions.{kept-then, kept-wider, sized-kept}
 use Rattle.workspace.proofs.Stands.{stands-holds, stands-doing, stands-so, stands-ready, stands-kept}
 use Rattle.workspace.proofs.Views.{same-table, ready-kept}
-use Rattle.onerule.specs.Rule.{Room, Ruled}
+use Rattle.outputs.specs.Words.{Room}
+use Rattle.onerule.specs.Rule.{Ruled}
 use Rattle.compose.specs.Composed.{Composable, Composed}
 use Rattle.normalize.specs.Strip.{Normalized}
 use Rattle.merge.specs.Classes.{Merged}

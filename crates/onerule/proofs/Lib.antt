@@ -1,4 +1,4 @@
 -- Laws of the rule's transducer, as the code writes it.
 pub mod Behind
-pub mod Words
+pub mod Afresh
 pub mod Ruled

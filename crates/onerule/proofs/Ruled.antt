@@ -19,7 +19,7 @@ use Rattle.workspace.specs.Entries.{FINAL}
 use Rattle.workspace.specs.Holds.{RowAt, Filling}
 use Rattle.workspace.proofs.Holds.{holds-table}
 use Rattle.onerule.specs.Rule.{afresh, Ruled}
-use Rattle.onerule.proofs.Words.{row-afresh, roomy-ended}
+use Rattle.onerule.proofs.Afresh.{row-afresh, roomy-ended}
 
 module _ (g : Grid) (W X : List ℕ) (base count e : ℕ) (k : Kind) (u : List ℕ) (p t : ℕ) where
   pub ruled : p < length u → length u + FINAL ≤ g .depth → before e u ≡ false → base + count ≤ g .rows → count ≡ states k (length u)

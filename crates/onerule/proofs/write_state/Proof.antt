@@ -1,4 +1,4 @@
-use Rattle.onerule.proofs.Words.{roomy-afresh}
+use Rattle.onerule.proofs.Afresh.{roomy-afresh}
 use Rattle.workspace.proofs.Holds.{stepping-end}
 use Rattle.onerule.specs.Rule.{afresh}
 use native.Mathlib.Omega.{arith}
@@ -8,8 +8,8 @@ use Rattle.onerule.proofs.write_state.Statement.{statement}
 use Rattle.onerule.proofs.write_state.Tie as tie
 use Rattle.onerule.proofs.write_state.Reads as reads
 use Rattle.onerule.proofs.write_state.Lts as lts
-use Rattle.onerule.proofs.write_final.Reads as write-final-reads
 use Rattle.onerule.proofs.write_steps.Reads as write-steps-reads
+use Rattle.outputs.proofs.write_final.Reads as write-final-reads
 
 add-write-steps : tie.Need-add-write-steps
 add-write-steps c = search needs

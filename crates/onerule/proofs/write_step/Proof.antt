@@ -1,5 +1,5 @@
 -- `onerule::write_step` meets its contract.
-use Rattle.onerule.proofs.Words.{restarts-below, roomy-afresh}
+use Rattle.onerule.proofs.Afresh.{restarts-below, roomy-afresh}
 use Rattle.workspace.specs.declared.Grid.{Grid}
 use Rattle.matcher.specs.Next.{restarts}
 use Rattle.workspace.specs.Holds.{Stepped}
@@ -15,7 +15,7 @@ use Rattle.onerule.proofs.write_step.Reads as reads
 use Rattle.onerule.proofs.write_step.Lts as lts
 use Rattle.matcher.proofs.next_of.Reads as next-of-reads
 use Rattle.matcher.proofs.restart.Reads as restart-reads
-use Rattle.onerule.proofs.write_output.Reads as write-output-reads
+use Rattle.outputs.proofs.write_output.Reads as write-output-reads
 use Rattle.workspace.proofs.put.Reads as put-reads
 
 -- another way to say the same next state

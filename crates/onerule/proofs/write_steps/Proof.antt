@@ -1,4 +1,4 @@
-use Rattle.onerule.proofs.Words.{roomy-afresh}
+use Rattle.onerule.proofs.Afresh.{roomy-afresh}
 use Rattle.matcher.proofs.Next.{behind-kept}
 use Rattle.onerule.specs.Rule.{afresh}
 use Rattle.workspace.proofs.Holds.{stepping-start, stepping-next}

@@ -1,15 +1,16 @@
-use Rattle.onerule.proofs.Words.{held-lesser, held-none}
+-- `outputs::write_final` meets its contract.
+use Rattle.outputs.proofs.Words.{held-lesser, held-none}
 use Rattle.workspace.proofs.Words.{written-more, written-is}
 use Rattle.workspace.specs.Cells.{part}
 use Prim.Native.Nat.{ℕ}
 use mathlib.Core.Path.{ap, _∙_}
 use native.Mathlib.Omega.{arith}
 use borrow.Author.Needs.{needs}
-use Rattle.onerule.proofs.write_final.Statement.{statement}
-use Rattle.onerule.proofs.write_final.Tie as tie
-use Rattle.onerule.proofs.write_final.Reads as reads
-use Rattle.onerule.proofs.write_final.Lts as lts
-use Rattle.onerule.proofs.push_part.Reads as push-part-reads
+use Rattle.outputs.proofs.write_final.Statement.{statement}
+use Rattle.outputs.proofs.write_final.Tie as tie
+use Rattle.outputs.proofs.write_final.Reads as reads
+use Rattle.outputs.proofs.write_final.Lts as lts
+use Rattle.outputs.proofs.push_part.Reads as push-part-reads
 use Rattle.workspace.proofs.clear.Reads as clear-reads
 
 clear-requires : tie.Need-clear-requires

@@ -1,11 +1,12 @@
+-- `outputs::push_part` meets its contract.
 use Rattle.workspace.proofs.Appending.{Appending, appending-start, appending-next, appending-end}
 use native.Mathlib.Omega.{arith}
 use Prim.Native.Nat.{_-_}
 use borrow.Author.Needs.{needs}
-use Rattle.onerule.proofs.push_part.Statement.{statement}
-use Rattle.onerule.proofs.push_part.Tie as tie
-use Rattle.onerule.proofs.push_part.Reads as reads
-use Rattle.onerule.proofs.push_part.Lts as lts
+use Rattle.outputs.proofs.push_part.Statement.{statement}
+use Rattle.outputs.proofs.push_part.Tie as tie
+use Rattle.outputs.proofs.push_part.Reads as reads
+use Rattle.outputs.proofs.push_part.Lts as lts
 use Rattle.words.proofs.wide.Reads as wide-reads
 use Rattle.workspace.proofs.push.Reads as push-reads
 

@@ -1,5 +1,6 @@
+-- `outputs::write_output` meets its contract.
 use Rattle.matcher.proofs.Next.{goes-le}
-use Rattle.onerule.proofs.Words.{says-end, says-match, says-short, says-back-all}
+use Rattle.outputs.proofs.Words.{says-end, says-match, says-short, says-back-all}
 use Rattle.workspace.proofs.Words.{more-size, written-more, written-is}
 use Rattle.workspace.proofs.Appending.{part-length}
 use Rattle.workspace.specs.Cells.{part}
@@ -9,11 +10,11 @@ use mathlib.Core.List.{[], _∷_, _++_, List}
 use mathlib.Core.Path.{ap, _∙_}
 use native.Mathlib.Omega.{arith}
 use borrow.Author.Needs.{needs}
-use Rattle.onerule.proofs.write_output.Statement.{statement}
-use Rattle.onerule.proofs.write_output.Tie as tie
-use Rattle.onerule.proofs.write_output.Reads as reads
-use Rattle.onerule.proofs.write_output.Lts as lts
-use Rattle.onerule.proofs.push_part.Reads as push-part-reads
+use Rattle.outputs.proofs.write_output.Statement.{statement}
+use Rattle.outputs.proofs.write_output.Tie as tie
+use Rattle.outputs.proofs.write_output.Reads as reads
+use Rattle.outputs.proofs.write_output.Lts as lts
+use Rattle.outputs.proofs.push_part.Reads as push-part-reads
 use Rattle.words.proofs.wide.Reads as wide-reads
 use Rattle.workspace.proofs.clear.Reads as clear-reads
 use Rattle.workspace.proofs.push.Reads as push-reads

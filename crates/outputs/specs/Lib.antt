@@ -1,0 +1,2 @@
+-- The words of a rule's transducer.
+pub mod Words
