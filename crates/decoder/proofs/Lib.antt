@@ -1,5 +1,3 @@
 -- Laws that the functions' proofs cite.
-pub mod Rows
-pub mod Progress
 pub mod Head
-pub mod Level
+pub mod Whole

@@ -1,39 +1,20 @@
--- The index of a table: for each state one entry for its final word and then one for each tag.
-use Prim.Native.Nat.{ℕ, _+_, _*_, _<_, _≤_, _-_}
+-- A table's head, and its index once the states are read and once the whole is.
+use Prim.Native.Nat.{ℕ, _+_, _*_, _<_, _≤_}
 use mathlib.Core.Path.{_≡_}
 use mathlib.Core.Bool.{Bool, true, false}
 use mathlib.Core.List.{List}
-use lib.ListN.{length, getD, drop}
+use lib.ListN.{length, drop}
 use Rattle.limits.specs.Limits.{fewest-tags, most-tags, most-states}
 use Rattle.answers.specs.Outcome.{result}
 use Rattle.answers.specs.declared.Refusal.the-variants.{Bare}
-use Rattle.transducers.specs.Table.{Step, Row, Table, no-step, row}
+use Rattle.transducers.specs.Table.{Table}
 use Rattle.tables.specs.Valid.{ValidTable}
 use Rattle.tables.specs.Bytes.{joined, rowBytes}
 use Rattle.tables.specs.Decode.{malformed, many, readRow, readTable, decode}
-use Rattle.steps.specs.Entry.{baseOf, countOf, FinalEntry, StepEntry}
 use Rattle.steps.specs.Part.{Part}
+use Rattle.indexing.specs.Entries.{TableEntries}
 use Rattle.decoder.specs.declared.TableAnswer.{TableAnswer}
 use Rattle.decoder.specs.declared.TableAnswer.the-variants.{Refused}
-
-abbrev pub StepEntries : ℕ → List ℕ → List ℕ → ℕ → List Step → Type 0
-StepEntries k bs ix c vs = (a : ℕ) → a < k → StepEntry k bs ix (c + a) (getD vs a no-step)
-
-pub record RowEntries (k : ℕ) (bs ix : List ℕ) (c : ℕ) (r : Row) : Type 0 where
-  pub final : FinalEntry bs (r .final) (getD ix c 0)
-  pub steps : StepEntries k bs ix (c + 1) (r .steps)
-
-abbrev pub TableEntries : ℕ → ℕ → List ℕ → List ℕ → Table → Type 0
-TableEntries k s bs ix t = (q : ℕ) → q < s → RowEntries k bs ix (q * (k + 1)) (row t q)
-
--- the entries of the step on a, of a state whose entries begin at c, have the counts that a balanced step has
-abbrev pub Level : List ℕ → ℕ → ℕ → Type 0
-Level ix c a =
-    countOf (getD ix (c + 1 + a) 0) + countOf (getD ix (baseOf (getD ix (c + 1 + a) 0) - 1) 0) ≡ countOf (getD ix c 0) + 1
-
--- the step's entry leads to another
-abbrev pub Linked : List ℕ → ℕ → ℕ → Type 0
-Linked ix c a = (1 ≤ baseOf (getD ix (c + 1 + a) 0)) × (baseOf (getD ix (c + 1 + a) 0) ≤ length ix)
 
 -- the head was read: what is left is the table after it
 pub record Head (bs : List ℕ) (k s : ℕ) : Type 0 where

@@ -9,7 +9,7 @@ use Rattle.transducers.specs.Table.{Step, Row, Table, no-step}
 use Rattle.tables.specs.Bytes.{joined}
 use Rattle.tables.specs.Valid.{ValidTable}
 use Rattle.steps.specs.Entry.{FinalEntry, EntryOf, StepEntry}
-use Rattle.decoder.specs.Index.{TableEntries}
+use Rattle.indexing.specs.Entries.{TableEntries}
 use Rattle.loaded.specs.Numbers.{rowAt, stepNumbers, stepsBehind, rowNumbers, rowsNumbers, rowBehind}
 use Rattle.entries.specs.State.{Base}
 

@@ -1,13 +1,13 @@
 -- `decoder::load` meets its contract.
 use native.Mathlib.Omega.{arith}
 use borrow.Author.Needs.{needs}
-use Rattle.decoder.proofs.Level.{load-not, load-rows}
+use Rattle.decoder.proofs.Whole.{load-not, load-rows}
 use Rattle.decoder.proofs.load.Statement.{statement}
 use Rattle.decoder.proofs.load.Tie as tie
 use Rattle.decoder.proofs.load.Reads as reads
 use Rattle.decoder.proofs.load.Lts as lts
 use Rattle.decoder.proofs.load_end.Reads as load-end-reads
-use Rattle.decoder.proofs.read_rows.Reads as read-rows-reads
+use Rattle.indexing.proofs.read_rows.Reads as read-rows-reads
 
 read-rows-requires : tie.Need-read-rows-requires
 read-rows-requires c κs = search needs

@@ -2,13 +2,13 @@
 use native.Mathlib.Omega.{arith}
 use borrow.Author.Needs.{needs}
 use Rattle.tables.proofs.Words.{below-of}
-use Rattle.decoder.proofs.Level.{load-longer, load-other, load-start, load-all, load-linked}
+use Rattle.decoder.proofs.Whole.{load-longer, load-other, load-start, load-all, load-linked}
 use Rattle.decoder.proofs.load_end.Statement.{statement}
 use Rattle.decoder.proofs.load_end.Tie as tie
 use Rattle.decoder.proofs.load_end.Reads as reads
 use Rattle.decoder.proofs.load_end.Lts as lts
 use Rattle.steps.proofs.count_of.Reads as count-of-reads
-use Rattle.decoder.proofs.level_rows.Reads as level-rows-reads
+use Rattle.leveling.proofs.level_rows.Reads as level-rows-reads
 
 sub-if1 : tie.Need-sub-if1
 sub-if1 c = search needs

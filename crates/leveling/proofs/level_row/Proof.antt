@@ -1,16 +1,16 @@
--- `decoder::level_row` meets its contract.
+-- `leveling::level_row` meets its contract.
 use Prim.Native.Nat.{ℕ, _-_, _≤_, _<_}
 use native.Mathlib.Omega.{arith}
 use borrow.Author.Count.{below-more}
 use borrow.Author.Needs.{needs}
 use Rattle.words.proofs.Decides.{decides-no, decides-yes}
 use borrow.Author.Tests.{not-true, not-false}
-use Rattle.decoder.specs.Index.{Level}
-use Rattle.decoder.proofs.level_row.Statement.{statement}
-use Rattle.decoder.proofs.level_row.Tie as tie
-use Rattle.decoder.proofs.level_row.Reads as reads
-use Rattle.decoder.proofs.level_row.Lts as lts
-use Rattle.decoder.proofs.level_step.Reads as level-step-reads
+use Rattle.leveling.specs.Level.{Level}
+use Rattle.leveling.proofs.level_row.Statement.{statement}
+use Rattle.leveling.proofs.level_row.Tie as tie
+use Rattle.leveling.proofs.level_row.Reads as reads
+use Rattle.leveling.proofs.level_row.Lts as lts
+use Rattle.leveling.proofs.level_step.Reads as level-step-reads
 
 abbrev Inv-loop : tie.InvT-loop
 Inv-loop index cell k a₀ a = (a ≤ k) × ((b : ℕ) → b < a → Level index cell b)

@@ -1,4 +1,4 @@
--- Balanced steps, as the counts of the index tell them.
+-- The whole table: what its last byte, its first state and its counts tell once the states are read.
 use Prim.Native.Nat.{ℕ, suc, _+_, _*_, _<_, _≤_, _-_}
 use native.Mathlib.Nat.{zero-mul}
 use native.Mathlib.Omega.{arith}
@@ -11,67 +11,21 @@ use lib.ListN.{length, drop, getD, length-drop, drop-of-length-le}
 use lib.Seq.{drop-drop, drop-cons}
 use Rattle.words.specs.Word.{Below}
 use Rattle.answers.specs.Outcome.{result}
-use Rattle.transducers.specs.Table.{Table, row, step, no-step, no-row}
+use Rattle.transducers.specs.Table.{row}
 use Rattle.tables.specs.Bytes.{joined, rowBytes}
 use Rattle.tables.specs.Decode.{malformed, many, readRow, readTable, decode, ended, rowsBalanced}
 use Rattle.words.specs.Decides.{Decides}
-use Rattle.steps.specs.Entry.{countOf, baseOf}
+use Rattle.steps.specs.Entry.{countOf}
 use Rattle.steps.specs.Part.{Part, PartRead}
-use Rattle.decoder.specs.Index.{TableEntries, Level, Linked, Head, RowsRead, LoadedIf}
+use Rattle.indexing.specs.Entries.{TableEntries}
+use Rattle.leveling.specs.Level.{Level, Linked}
+use Rattle.decoder.specs.Index.{Head, RowsRead, LoadedIf}
 use Rattle.steps.specs.declared.Reached.{Reached}
 use Rattle.steps.specs.declared.Reached.the-variants.{To, Malformed}
 use Rattle.words.proofs.Word.{below-drop}
-use Rattle.tables.proofs.Parts.{Every, every-at, every-of, GoodStep, GoodRow, many-read, row-read}
-use Rattle.steps.proofs.Places.{row-inside}
-use Rattle.tables.proofs.Theorem.{Balanced, RowBalanced, rows-balanced, balanced-rows, table-at, decoded}
-
--- a table whose states were read, with its index
-module _ (k s : ℕ) (bs ix : List ℕ) (t : Table) (states : length t ≡ s) (good : Every (GoodRow k s) t) (cells : TableEntries k s bs ix t) where
-  row-good : (q : ℕ) → q < s → GoodRow k s (row t q)
-  row-good q h = every-at (GoodRow k s) t no-row q good (omega arith)
-
-  step-good : (q a : ℕ) → q < s → a < k → GoodStep k s (step t q a)
-  step-good q a h g = every-at (GoodStep k s) (row t q .steps) no-step a (row-good q h .steps) (omega (arith, row-good q h .whole))
-
-  held : (q : ℕ) (h : q < s) → countOf (getD ix (q * (k + 1)) 0) ≡ length (row t q .final)
-  held q h = omega (arith, cells q h .final .count-is, row-good q h .held)
-
-  module _ (q a : ℕ) (h : q < s) (g : a < k) where
-    base : baseOf (getD ix (q * (k + 1) + 1 + a) 0) ≡ step t q a .next * (k + 1) + 1
-    base = cells q h .steps a g .base-is
-
-    next-held : countOf (getD ix (baseOf (getD ix (q * (k + 1) + 1 + a) 0) - 1) 0) ≡ length (row t (step t q a .next) .final)
-    next-held =
-        let e : baseOf (getD ix (q * (k + 1) + 1 + a) 0) - 1 ≡ step t q a .next * (k + 1) = omega (arith, base) in
-        rw e (held (step t q a .next) (step-good q a h g .next-below))
-
-    level-balanced : Level ix (q * (k + 1)) a → Balanced t (length (row t q .final)) (step t q a)
-    level-balanced l = omega (arith, l, held q h, next-held, cells q h .steps a g .count-is, row-good q h .held)
-
-    balanced-level : Balanced t (length (row t q .final)) (step t q a) → Level ix (q * (k + 1)) a
-    balanced-level l = omega (arith, l, held q h, next-held, cells q h .steps a g .count-is, row-good q h .held)
-
-    pub linked : s * (k + 1) ≤ length ix → Linked ix (q * (k + 1)) a
-    linked room =
-        let inside = row-inside (step t q a .next) s k (length ix) (step-good q a h g .next-below) room in
-        (omega (arith, base), omega (arith, base, inside))
-
-  pub levels-balanced : ((q a : ℕ) → q < s → a < k → Level ix (q * (k + 1)) a) → rowsBalanced t t ≡ true
-  levels-balanced all =
-      balanced-rows t t
-      (every-of (RowBalanced t) t no-row
-      (λ q h. every-of (Balanced t (length (row t q .final))) (row t q .steps) no-step
-      (λ a g.
-      let h' : q < s = omega arith in
-      let g' : a < k = omega (arith, row-good q h' .whole) in
-      level-balanced q a h' g' (all q a h' g'))))
-
-  pub balanced-levels : rowsBalanced t t ≡ true → (q a : ℕ) → q < s → a < k → Level ix (q * (k + 1)) a
-  balanced-levels e q a h g =
-      balanced-level q a h g
-      (every-at (Balanced t (length (row t q .final))) (row t q .steps) no-step a
-      (every-at (RowBalanced t) t no-row q (rows-balanced t t e) (omega arith))
-      (omega (arith, row-good q h .whole)))
+use Rattle.tables.proofs.Parts.{Every, GoodRow, many-read, row-read}
+use Rattle.leveling.proofs.Level.{held, linked, levels-balanced, balanced-levels}
+use Rattle.tables.proofs.Theorem.{table-at, decoded}
 
 -- the states were read after the head; what is left are the last byte and the held tags
 module _

@@ -1,4 +1,4 @@
--- `decoder::read_steps` meets its contract.
+-- `indexing::read_steps` meets its contract.
 use Prim.Native.Nat.{_+_, _*_, _-_, _≤_}
 use native.Mathlib.Omega.{arith}
 use borrow.Author.Needs.{needs}
@@ -9,13 +9,13 @@ use Rattle.tables.specs.Bytes.{stepBytes}
 use Rattle.tables.specs.Decode.{readStep}
 use Rattle.steps.specs.Entry.{EntryOf, StepEntry}
 use Rattle.steps.specs.Part.{SameBelow}
-use Rattle.decoder.specs.Index.{StepEntries}
-use Rattle.decoder.proofs.Progress.{Progress, progress-none, progress-all, turn, stopped}
+use Rattle.indexing.specs.Entries.{StepEntries}
+use Rattle.indexing.proofs.Progress.{Progress, progress-none, progress-all, turn, stopped}
 use Rattle.steps.proofs.Places.{kept-at, kept-then}
-use Rattle.decoder.proofs.read_steps.Statement.{statement}
-use Rattle.decoder.proofs.read_steps.Tie as tie
-use Rattle.decoder.proofs.read_steps.Reads as reads
-use Rattle.decoder.proofs.read_steps.Lts as lts
+use Rattle.indexing.proofs.read_steps.Statement.{statement}
+use Rattle.indexing.proofs.read_steps.Tie as tie
+use Rattle.indexing.proofs.read_steps.Reads as reads
+use Rattle.indexing.proofs.read_steps.Lts as lts
 use Rattle.steps.proofs.read_step.Reads as read-step-reads
 
 abbrev Inv-loop : tie.InvT-loop

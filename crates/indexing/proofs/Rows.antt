@@ -17,7 +17,7 @@ use Rattle.steps.specs.Part.{PartRead, SameBelow}
 use Rattle.steps.specs.declared.Reached.{Reached}
 use Rattle.steps.specs.declared.Reached.the-variants.{To, Malformed}
 use Rattle.steps.proofs.Places.{drop-two, kept-at, row-inside}
-use Rattle.decoder.specs.Index.{StepEntries, RowEntries}
+use Rattle.indexing.specs.Entries.{StepEntries, RowEntries}
 
 pub row-kept :
     (k q i : ℕ) (x y bs : List ℕ) (r : Row)

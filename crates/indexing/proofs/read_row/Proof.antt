@@ -1,4 +1,4 @@
--- `decoder::read_row` meets its contract: each return is a case of `readRow`.
+-- `indexing::read_row` meets its contract: each return is a case of `readRow`.
 use Prim.Native.Nat.{_+_}
 use native.Mathlib.Omega.{arith}
 use borrow.Author.Needs.{needs}
@@ -7,12 +7,12 @@ use lib.ListN.{length, drop, set, length-set}
 use lib.Seq.{getD-set-same}
 use Rattle.tables.specs.Decode.{word}
 use Rattle.steps.proofs.Places.{word-stands, final-cell, kept-set, kept-then}
-use Rattle.decoder.proofs.Rows.{row-short, row-other, row-held, row-count, row-whole}
-use Rattle.decoder.proofs.read_row.Statement.{statement}
-use Rattle.decoder.proofs.read_row.Tie as tie
-use Rattle.decoder.proofs.read_row.Reads as reads
-use Rattle.decoder.proofs.read_row.Lts as lts
-use Rattle.decoder.proofs.read_steps.Reads as read-steps-reads
+use Rattle.indexing.proofs.Rows.{row-short, row-other, row-held, row-count, row-whole}
+use Rattle.indexing.proofs.read_row.Statement.{statement}
+use Rattle.indexing.proofs.read_row.Tie as tie
+use Rattle.indexing.proofs.read_row.Reads as reads
+use Rattle.indexing.proofs.read_row.Lts as lts
+use Rattle.indexing.proofs.read_steps.Reads as read-steps-reads
 use Rattle.words.proofs.wide.Reads as wide-reads
 use Rattle.steps.proofs.word_end.Reads as word-end-reads
 use Rattle.steps.proofs.entry.Reads as entry-reads

@@ -1,4 +1,4 @@
--- `decoder::read_rows` meets its contract.
+-- `indexing::read_rows` meets its contract.
 use Prim.Native.Nat.{_+_, _*_, _-_, _≤_}
 use native.Mathlib.Nat.{zero-mul}
 use native.Mathlib.Omega.{arith}
@@ -8,15 +8,15 @@ use lib.ListN.{length}
 use Rattle.transducers.specs.Table.{no-row}
 use Rattle.tables.specs.Bytes.{rowBytes}
 use Rattle.tables.specs.Decode.{readRow}
-use Rattle.decoder.specs.Index.{RowEntries, TableEntries}
-use Rattle.decoder.proofs.Progress.{Progress, progress-none, progress-all, turn, stopped}
+use Rattle.indexing.specs.Entries.{RowEntries, TableEntries}
+use Rattle.indexing.proofs.Progress.{Progress, progress-none, progress-all, turn, stopped}
 use Rattle.steps.proofs.Places.{row-inside, row-next}
-use Rattle.decoder.proofs.Rows.{row-kept}
-use Rattle.decoder.proofs.read_rows.Statement.{statement}
-use Rattle.decoder.proofs.read_rows.Tie as tie
-use Rattle.decoder.proofs.read_rows.Reads as reads
-use Rattle.decoder.proofs.read_rows.Lts as lts
-use Rattle.decoder.proofs.read_row.Reads as read-row-reads
+use Rattle.indexing.proofs.Rows.{row-kept}
+use Rattle.indexing.proofs.read_rows.Statement.{statement}
+use Rattle.indexing.proofs.read_rows.Tie as tie
+use Rattle.indexing.proofs.read_rows.Reads as reads
+use Rattle.indexing.proofs.read_rows.Lts as lts
+use Rattle.indexing.proofs.read_row.Reads as read-row-reads
 
 abbrev Inv-loop : tie.InvT-loop
 Inv-loop table k s index₀ to₀ q₀ cell₀ index to q cell =

@@ -1,11 +1,11 @@
--- `decoder::level_step` meets its contract.
+-- `leveling::level_step` meets its contract.
 use native.Mathlib.Omega.{arith}
 use borrow.Author.Needs.{needs}
 use Rattle.words.proofs.Decides.{decides-no, decides-yes}
-use Rattle.decoder.proofs.level_step.Statement.{statement}
-use Rattle.decoder.proofs.level_step.Tie as tie
-use Rattle.decoder.proofs.level_step.Reads as reads
-use Rattle.decoder.proofs.level_step.Lts as lts
+use Rattle.leveling.proofs.level_step.Statement.{statement}
+use Rattle.leveling.proofs.level_step.Tie as tie
+use Rattle.leveling.proofs.level_step.Reads as reads
+use Rattle.leveling.proofs.level_step.Lts as lts
 use Rattle.steps.proofs.base_of.Reads as base-of-reads
 use Rattle.steps.proofs.count_of.Reads as count-of-reads
 

@@ -1,4 +1,4 @@
--- `decoder::level_rows` meets its contract.
+-- `leveling::level_rows` meets its contract.
 use Prim.Native.Nat.{ℕ, _+_, _*_, _-_, _≤_, _<_}
 use native.Mathlib.Nat.{zero-mul}
 use native.Mathlib.Omega.{arith}
@@ -8,13 +8,13 @@ use Rattle.words.proofs.Decides.{decides-no, decides-yes}
 use borrow.Author.Tests.{not-true, not-false}
 use mathlib.Core.Path.{_≡_}
 use lib.ListN.{length}
-use Rattle.decoder.specs.Index.{Level}
+use Rattle.leveling.specs.Level.{Level}
 use Rattle.steps.proofs.Places.{row-inside, row-next}
-use Rattle.decoder.proofs.level_rows.Statement.{statement}
-use Rattle.decoder.proofs.level_rows.Tie as tie
-use Rattle.decoder.proofs.level_rows.Reads as reads
-use Rattle.decoder.proofs.level_rows.Lts as lts
-use Rattle.decoder.proofs.level_row.Reads as level-row-reads
+use Rattle.leveling.proofs.level_rows.Statement.{statement}
+use Rattle.leveling.proofs.level_rows.Tie as tie
+use Rattle.leveling.proofs.level_rows.Reads as reads
+use Rattle.leveling.proofs.level_rows.Lts as lts
+use Rattle.leveling.proofs.level_row.Reads as level-row-reads
 
 abbrev Inv-loop : tie.InvT-loop
 Inv-loop index k s q₀ cell₀ q cell =

@@ -1,0 +1,2 @@
+-- Laws of the counts.
+pub mod Level

@@ -1,0 +1,2 @@
+-- Balanced steps, as the counts of the index tell them.
+pub mod Level
