@@ -19,7 +19,7 @@ use Rattle.traces.proofs.Places.{piecewise-long}
 use Rattle.traces.proofs.Theorems.{traced-long, told}
 use Rattle.tagger.specs.Run.{bookRun}
 use Rattle.tagger.specs.Numbers.{bookNumbers}
-use Rattle.tagger.specs.Rules.{numbers}
+use Rattle.running.specs.Rules.{numbers}
 use Rattle.tagger.proofs.Numbers.{Read, was-run}
 use Rattle.nedzsuka.proofs.Legible.{legible-book}
 use Rattle.nedzsuka.proofs.Demand.{RunCall, made-counted, run-refused-nothing, run-made}

@@ -1,4 +1,4 @@
 -- The run of a book.
 pub mod Run
 pub mod Numbers
-pub mod Rules
+pub mod Reading

@@ -18,7 +18,7 @@ use Rattle.tagger.proofs.run_book.Tie as tie
 use Rattle.tagger.proofs.run_book.Reads as reads
 use Rattle.tagger.proofs.run_book.Lts as lts
 use Rattle.reader.proofs.read_into.Reads as read-into-reads
-use Rattle.tagger.proofs.run_rules.Reads as run-rules-reads
+use Rattle.running.proofs.run_rules.Reads as run-rules-reads
 
 read-into-requires : tie.Need-read-into-requires
 read-into-requires c κs = fresh-shaped

@@ -13,14 +13,16 @@ use Rattle.cascades.specs.Rewrite.{behavior}
 use Rattle.books.specs.Arrays.{holding}
 use Rattle.books.specs.Resume.{Whole}
 use Rattle.books.proofs.Arrays.{fresh-shaped}
-use Rattle.tagger.specs.Rules.{reading, numbers}
-use Rattle.tagger.proofs.Run.{book-refused, book-runs, few-tags, applicable, numbers-kept}
+use Rattle.running.specs.Rules.{numbers}
+use Rattle.running.proofs.Run.{numbers-kept}
+use Rattle.tagger.specs.Reading.{reading}
+use Rattle.tagger.proofs.Run.{book-refused, book-runs, few-tags, applicable}
 use Rattle.tagger.proofs.run_into.Statement.{statement}
 use Rattle.tagger.proofs.run_into.Tie as tie
 use Rattle.tagger.proofs.run_into.Reads as reads
 use Rattle.tagger.proofs.run_into.Lts as lts
 use Rattle.reader.proofs.read_into.Reads as read-into-reads
-use Rattle.tagger.proofs.run_pieces.Reads as run-pieces-reads
+use Rattle.running.proofs.run_pieces.Reads as run-pieces-reads
 
 read-into-requires : tie.Need-read-into-requires
 read-into-requires c κs = fresh-shaped

@@ -1,4 +1,4 @@
--- `tagger::run_rules` meets its contract.
+-- `running::run_rules` meets its contract.
 use borrow.Author.Needs.{needs}
 use mathlib.Core.Path.{sym}
 use Prim.Native.Nat.{ℕ}
@@ -9,13 +9,13 @@ use Rattle.sentences.specs.Run.{run}
 use Rattle.sentences.proofs.Run.{run-accepts, ran-refused, ran-changed}
 use Rattle.cascades.specs.Rewrite.{applyAll}
 use Rattle.books.specs.Arrays.{holding, rulesOf}
-use Rattle.tagger.proofs.Run.{run-refused, run-admitted}
-use Rattle.tagger.proofs.run_rules.Statement.{statement}
-use Rattle.tagger.proofs.run_rules.Tie as tie
-use Rattle.tagger.proofs.run_rules.Reads as reads
-use Rattle.tagger.proofs.run_rules.Lts as lts
+use Rattle.running.proofs.Run.{run-refused, run-admitted}
+use Rattle.running.proofs.run_rules.Statement.{statement}
+use Rattle.running.proofs.run_rules.Tie as tie
+use Rattle.running.proofs.run_rules.Reads as reads
+use Rattle.running.proofs.run_rules.Lts as lts
 use Rattle.sentences.proofs.admit.Reads as admit-reads
-use Rattle.tagger.proofs.write_rules.Reads as write-rules-reads
+use Rattle.running.proofs.write_rules.Reads as write-rules-reads
 
 -- what the rules make of the sentence, and the outcome of the run
 abbrev made : tie.Start → List ℕ

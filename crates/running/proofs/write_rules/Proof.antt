@@ -1,12 +1,12 @@
--- `tagger::write_rules` meets its contract.
+-- `running::write_rules` meets its contract.
 use borrow.Author.Needs.{needs}
 use Rattle.cascades.specs.Rewrite.{applyAll}
 use Rattle.books.specs.Arrays.{holding, rulesOf}
-use Rattle.tagger.proofs.Run.{front-long, made-long, writes}
-use Rattle.tagger.proofs.write_rules.Statement.{statement}
-use Rattle.tagger.proofs.write_rules.Tie as tie
-use Rattle.tagger.proofs.write_rules.Reads as reads
-use Rattle.tagger.proofs.write_rules.Lts as lts
+use Rattle.running.proofs.Run.{front-long, made-long, writes}
+use Rattle.running.proofs.write_rules.Statement.{statement}
+use Rattle.running.proofs.write_rules.Tie as tie
+use Rattle.running.proofs.write_rules.Reads as reads
+use Rattle.running.proofs.write_rules.Lts as lts
 use Rattle.application.proofs.apply_rules.Reads as apply-rules-reads
 use Rattle.sentences.proofs.copy.Reads as copy-reads
 use Rattle.sentences.proofs.count_changes.Reads as count-changes-reads

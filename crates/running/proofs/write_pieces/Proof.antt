@@ -1,4 +1,4 @@
--- `tagger::write_pieces` meets its contract.
+-- `running::write_pieces` meets its contract.
 use native.Mathlib.Omega.{arith}
 use borrow.Author.Needs.{needs}
 use mathlib.Core.Path.{sym, subst}
@@ -9,11 +9,11 @@ use Rattle.words.specs.Pieces.{piecewise}
 use Rattle.cascades.specs.Rewrite.{applyAll}
 use Rattle.books.specs.Arrays.{holding, rulesOf}
 use Rattle.traces.specs.Trace.{numbersOf}
-use Rattle.tagger.proofs.Run.{front-is, front-long, made-long, writes, numbers-written}
-use Rattle.tagger.proofs.write_pieces.Statement.{statement}
-use Rattle.tagger.proofs.write_pieces.Tie as tie
-use Rattle.tagger.proofs.write_pieces.Reads as reads
-use Rattle.tagger.proofs.write_pieces.Lts as lts
+use Rattle.running.proofs.Run.{front-is, front-long, made-long, writes, numbers-written}
+use Rattle.running.proofs.write_pieces.Statement.{statement}
+use Rattle.running.proofs.write_pieces.Tie as tie
+use Rattle.running.proofs.write_pieces.Reads as reads
+use Rattle.running.proofs.write_pieces.Lts as lts
 use Rattle.application.proofs.apply_book.Reads as apply-book-reads
 use Rattle.sentences.proofs.copy.Reads as copy-reads
 use Rattle.sentences.proofs.count_changes.Reads as count-changes-reads

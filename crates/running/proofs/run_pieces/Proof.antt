@@ -1,4 +1,4 @@
--- `tagger::run_pieces` meets its contract.
+-- `running::run_pieces` meets its contract.
 use native.Mathlib.Omega.{arith}
 use borrow.Author.Needs.{needs}
 use mathlib.Core.Path.{_≡_, sym, _∙_}
@@ -14,15 +14,15 @@ use Rattle.cascades.specs.Rule.{Cascade, ending}
 use Rattle.cascades.specs.Rewrite.{behavior}
 use Rattle.books.specs.Arrays.{holding, cascadeOf}
 use Rattle.traces.proofs.Theorems.{traced-long}
-use Rattle.tagger.specs.Rules.{running, numbers}
-use Rattle.tagger.proofs.Run.{run-14, run-fits, run-refused, run-admitted, numbers-kept, numbers-put}
-use Rattle.tagger.proofs.run_pieces.Statement.{statement}
-use Rattle.tagger.proofs.run_pieces.Tie as tie
-use Rattle.tagger.proofs.run_pieces.Reads as reads
-use Rattle.tagger.proofs.run_pieces.Lts as lts
+use Rattle.running.specs.Rules.{running, numbers}
+use Rattle.running.proofs.Run.{run-14, run-fits, run-refused, run-admitted, numbers-kept, numbers-put}
+use Rattle.running.proofs.run_pieces.Statement.{statement}
+use Rattle.running.proofs.run_pieces.Tie as tie
+use Rattle.running.proofs.run_pieces.Reads as reads
+use Rattle.running.proofs.run_pieces.Lts as lts
 use Rattle.endings.proofs.bad_end.Reads as bad-end-reads
 use Rattle.sentences.proofs.admit.Reads as admit-reads
-use Rattle.tagger.proofs.write_pieces.Reads as write-pieces-reads
+use Rattle.running.proofs.write_pieces.Reads as write-pieces-reads
 
 -- the rules, what f makes of the sentence by them, and the outcome of the run
 abbrev cascade : tie.Start → Cascade

@@ -1,0 +1,2 @@
+-- Laws of the output slices and of the answer.
+pub mod Run

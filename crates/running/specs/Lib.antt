@@ -1,0 +1,2 @@
+-- The run of a book that has been read.
+pub mod Rules
