@@ -4,7 +4,7 @@ use mathlib.Core.Path.{_≡_, refl}
 use mathlib.Core.List.{List, [], _∷_}
 use Rattle.limits.specs.Limits.{no-end}
 use Rattle.answers.specs.Outcome.{result, refused, nothing, rule}
-use Rattle.tagger.specs.Run.{bookRun}
+use Rattle.tagging.specs.Run.{bookRun}
 use Rattle.compilation.specs.Compile.{compileAnswer}
 use Rattle.compilation.specs.Instances.{long-work, long-out}
 

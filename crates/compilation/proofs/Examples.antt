@@ -5,7 +5,7 @@ use mathlib.Core.List.{List, [], _∷_}
 use Rattle.limits.specs.Limits.{no-end}
 use Rattle.words.specs.Pieces.{pieces}
 use Rattle.answers.specs.Outcome.{result, refused, nothing, byte, rule}
-use Rattle.tagger.specs.Run.{bookRun}
+use Rattle.tagging.specs.Run.{bookRun}
 use Rattle.compilation.specs.Compile.{compileAnswer}
 use Rattle.compilation.specs.Instances.{long-work, long-out}
 

@@ -13,7 +13,7 @@ use Rattle.sentences.proofs.Run.{run-accepts, accepted-run, run-same}
 use Rattle.cascades.specs.Rewrite.{behavior}
 use Rattle.books.specs.Ending.{readEnding}
 use Rattle.books.proofs.Ending.{reads-ending}
-use Rattle.tagger.specs.Run.{bookRun}
+use Rattle.tagging.specs.Run.{bookRun}
 use Rattle.transducers.specs.Transducer.{puts}
 use Rattle.transducers.specs.Table.{shape}
 use Rattle.tables.specs.Decode.{decode}

@@ -9,7 +9,7 @@ use Rattle.words.specs.Word.{differences, same}
 use Rattle.answers.specs.Outcome.{Outcome, result, refused, nothing, byte, rule}
 use Rattle.cascades.specs.Rule.{Rule, Cascade}
 use Rattle.books.specs.Read.{read}
-use Rattle.tagger.specs.Run.{bookRun}
+use Rattle.tagging.specs.Run.{bookRun}
 use Rattle.tables.specs.Bytes.{number}
 use Rattle.compilation.specs.Compile.{compileAnswer}
 

@@ -15,7 +15,7 @@ use Rattle.answers.specs.declared.RunAnswer.{RunAnswer}
 use Rattle.sentences.specs.Run.{changed, Ran}
 use Rattle.cascades.specs.Rule.{Cascade}
 use Rattle.books.specs.Ending.{readEnding}
-use Rattle.tagger.specs.Run.{bookRun}
+use Rattle.tagging.specs.Run.{bookRun}
 use Rattle.tables.specs.Run.{tableRun}
 use Rattle.compilation.specs.Compile.{compileAnswer}
 use Rattle.compilation.specs.Demand.{PartNeedsMore, Shortest, Alike, Premises, SmallestTable, Compiled, Named}

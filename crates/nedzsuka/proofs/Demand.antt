@@ -13,7 +13,7 @@ use Rattle.answers.proofs.Slice.{refused-keeps, front-result, long-rule}
 use Rattle.sentences.specs.Run.{changed}
 use Rattle.cascades.specs.Rule.{Cascade}
 use Rattle.books.specs.Ending.{readEnding}
-use Rattle.tagger.specs.Run.{bookRun}
+use Rattle.tagging.specs.Run.{bookRun}
 use Rattle.tables.specs.Run.{tableRun}
 use Rattle.compilation.specs.Compile.{compileAnswer}
 use Rattle.compilation.specs.Demand.{PartNeedsMore, Shortest, Alike, Premises, SmallestTable, Compiled, Named, BookMakes, TableMakes}

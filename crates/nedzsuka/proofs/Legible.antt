@@ -22,7 +22,7 @@ use Rattle.books.specs.Answer.{Sizes, sizes, bookOutcome}
 use Rattle.books.specs.declared.BookAnswer.{BookAnswer}
 use Rattle.books.proofs.Refusal.{BookRefusal, book-refusal}
 use Rattle.books.proofs.Encode.{reads-exactly}
-use Rattle.tagger.specs.Run.{bookRun}
+use Rattle.tagging.specs.Run.{bookRun}
 use Rattle.transducers.specs.Transducer.{puts}
 use Rattle.transducers.specs.Table.{Table, shape}
 use Rattle.minimal.specs.TableOf.{tableOf}

@@ -12,7 +12,7 @@ use Rattle.answers.specs.Outcome.{Outcome, result, andThen, provided}
 use Rattle.answers.specs.Slice.{fitting, longOf, written}
 use Rattle.answers.proofs.Slice.{front-result}
 use Rattle.sentences.specs.Run.{changed}
-use Rattle.tagger.specs.Run.{bookRun}
+use Rattle.tagging.specs.Run.{bookRun}
 use Rattle.tables.specs.Decode.{Decoded, decode}
 use Rattle.tables.specs.Run.{Size, tableRun}
 use Rattle.tables.proofs.Outcomes.{Read, gave, refuses, read-decode}

@@ -17,10 +17,10 @@ use Rattle.traces.specs.Trace.{traced}
 use Rattle.traces.specs.Last.{Told}
 use Rattle.traces.proofs.Places.{piecewise-long}
 use Rattle.traces.proofs.Theorems.{traced-long, told}
-use Rattle.tagger.specs.Run.{bookRun}
-use Rattle.tagger.specs.Numbers.{bookNumbers}
+use Rattle.tagging.specs.Run.{bookRun}
+use Rattle.tagging.specs.Numbers.{bookNumbers}
 use Rattle.running.specs.Rules.{numbers}
-use Rattle.tagger.proofs.Numbers.{Read, was-run}
+use Rattle.tagging.proofs.Numbers.{Read, was-run}
 use Rattle.nedzsuka.proofs.Legible.{legible-book}
 use Rattle.nedzsuka.proofs.Demand.{RunCall, made-counted, run-refused-nothing, run-made}
 

@@ -7,7 +7,7 @@ use lib.ListN.{length, take, drop, replicate, length-replicate}
 use Rattle.limits.specs.Limits.{most-states, no-end, work-entries}
 use Rattle.answers.specs.Outcome.{Outcome}
 use Rattle.answers.specs.Slice.{longOf, written}
-use Rattle.tagger.specs.Run.{bookRun}
+use Rattle.tagging.specs.Run.{bookRun}
 use Rattle.tables.specs.Run.{tableRun}
 use Rattle.packing.specs.Packed.{packed}
 use Rattle.starter.specs.Starter.{starterBook, starterAnswer}

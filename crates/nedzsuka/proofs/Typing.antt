@@ -12,7 +12,7 @@ use Rattle.answers.specs.Outcome.{Outcome, result, refused, Place}
 use Rattle.answers.specs.Slice.{longOf, written}
 use Rattle.answers.proofs.Slice.{front-result}
 use Rattle.sentences.specs.Run.{changed}
-use Rattle.tagger.specs.Run.{bookRun}
+use Rattle.tagging.specs.Run.{bookRun}
 use Rattle.tables.specs.Run.{tableRun}
 use Rattle.packing.specs.Packed.{packed, Legible}
 use Rattle.typing.specs.Typing.{Handed, opened, give, look, close}

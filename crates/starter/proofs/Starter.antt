@@ -9,7 +9,7 @@ use Rattle.limits.specs.Limits.{most-states, no-end, work-entries}
 use Rattle.answers.specs.Outcome.{Outcome, result, refused, nothing, provided}
 use Rattle.answers.specs.Slice.{fitting, written}
 use Rattle.books.specs.Ending.{readEnding}
-use Rattle.tagger.specs.Run.{bookRun}
+use Rattle.tagging.specs.Run.{bookRun}
 use Rattle.minimal.specs.TableOf.{tableOf}
 use Rattle.tables.specs.Bytes.{encode}
 use Rattle.tables.specs.Run.{tableRun}

@@ -22,7 +22,7 @@ use Rattle.books.specs.declared.BookAnswer.the-variants.{Book}
 use Rattle.books.proofs.Encode.{reads-exactly}
 use Rattle.books.proofs.Held.{was-refused, was-read, rules-held}
 use Rattle.running.specs.Rules.{running}
-use Rattle.tagger.specs.Reading.{reading}
+use Rattle.tagging.specs.Reading.{reading}
 use Rattle.endings.specs.Usable.{Usable}
 use Rattle.endings.proofs.Ending.{usable}
 

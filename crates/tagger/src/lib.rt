@@ -14,8 +14,8 @@ ghost use lib.ListN.{length};
 ghost use Rattle.limits.specs.Limits.{no-end};
 ghost use Rattle.answers.specs.Slice.{written};
 ghost use Rattle.sentences.specs.Run.{Ran};
-ghost use Rattle.tagger.specs.Run.{bookRun};
-ghost use Rattle.tagger.specs.Numbers.{bookNumbers};
+ghost use Rattle.tagging.specs.Run.{bookRun};
+ghost use Rattle.tagging.specs.Numbers.{bookNumbers};
 
 // Runs a book over a sentence, where the slices that get a result have at least `room` bytes. The reader is lent a slice of all of the book: the
 // slice itself would be copied in memory, and the reader would wait for the copy.

@@ -10,7 +10,7 @@ use Rattle.sentences.specs.Run.{Ran}
 use Rattle.sentences.proofs.Run.{ran-refused}
 use Rattle.books.specs.Arrays.{holding}
 use Rattle.books.proofs.Arrays.{fresh-shaped}
-use Rattle.tagger.specs.Run.{bookRun}
+use Rattle.tagging.specs.Run.{bookRun}
 use Rattle.cascades.specs.Rewrite.{behavior}
 use Rattle.tagger.proofs.Run.{book-refused, book-runs-whole, applicable}
 use Rattle.tagger.proofs.run_book.Statement.{statement}

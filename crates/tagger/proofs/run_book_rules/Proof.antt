@@ -5,8 +5,8 @@ use Prim.Native.Nat.{ℕ}
 use mathlib.Core.Path.{subst, ap, _∙_}
 use Rattle.answers.specs.Slice.{written}
 use Rattle.sentences.specs.Run.{Ran}
-use Rattle.tagger.specs.Run.{bookRun}
-use Rattle.tagger.specs.Numbers.{bookNumbers}
+use Rattle.tagging.specs.Run.{bookRun}
+use Rattle.tagging.specs.Numbers.{bookNumbers}
 use Rattle.tagger.proofs.run_book_rules.Statement.{statement}
 use Rattle.tagger.proofs.run_book_rules.Tie as tie
 use Rattle.tagger.proofs.run_book_rules.Reads as reads

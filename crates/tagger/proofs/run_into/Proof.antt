@@ -15,7 +15,7 @@ use Rattle.books.specs.Resume.{Whole}
 use Rattle.books.proofs.Arrays.{fresh-shaped}
 use Rattle.running.specs.Rules.{numbers}
 use Rattle.running.proofs.Run.{numbers-kept}
-use Rattle.tagger.specs.Reading.{reading}
+use Rattle.tagging.specs.Reading.{reading}
 use Rattle.tagger.proofs.Run.{book-refused, book-runs, few-tags, applicable}
 use Rattle.tagger.proofs.run_into.Statement.{statement}
 use Rattle.tagger.proofs.run_into.Tie as tie

@@ -10,7 +10,7 @@ use Rattle.sentences.proofs.Run.{run-accepts, accepted-run}
 use Rattle.cascades.specs.Rule.{Cascade}
 use Rattle.books.specs.Ending.{readEnding}
 use Rattle.books.proofs.Ending.{reads-ending}
-use Rattle.tagger.specs.Reading.{reading}
+use Rattle.tagging.specs.Reading.{reading}
 
 -- the cascade that was read, and whatever is made by it
 pub record Read (book : List ℕ) (end : ℕ) (sentence : List ℕ) (room : ℕ) : Type 0 where

@@ -1,0 +1,2 @@
+-- Laws of the run of a book.
+pub mod Numbers
