@@ -9,9 +9,10 @@ int main(void)
     uint32_t loaded[NEDZSUKA_STARTER_BYTES];
     uint64_t answer;
 
+    /* Once. Neither call is refused, since both slices are long enough. */
     nedzsuka_starter_table(table, sizeof table);
     nedzsuka_load_table(table, sizeof table, loaded, sizeof loaded / sizeof *loaded);
-    /* From here on for each sentence. */
+    /* For each sentence. */
     answer = nedzsuka_run_loaded(loaded, sizeof loaded / sizeof *loaded, sentence, sizeof sentence, out, sizeof out);
     for (size_t i = 0; i < sizeof out; i++)
         printf("%d ", out[i]);
