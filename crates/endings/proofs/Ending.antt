@@ -9,7 +9,8 @@ use mathlib.Core.List.{List, [], _∷_, _++_, reverse-cons}
 use borrow.Author.Tests.{eq-eqb, ne-eqb, le-leb, lt-leb}
 use lib.Dec.{eqb, leb}
 use lib.ListN.{length, take, drop, getD, length-drop}
-use lib.Seq.{drop-cons, length-take-le}
+use lib.Seq.{length-take-le}
+use Rattle.words.proofs.Word.{drop-step}
 use Rattle.cascades.specs.Rule.{Rule, Cascade, ending}
 use Rattle.cascades.specs.Value.{ruleOf, Formed}
 use Rattle.cascades.specs.declared.Rule.{Rule as Value}
@@ -41,8 +42,7 @@ module _ (e : ℕ) (u : List ℕ) where
 
     step : i + 1 < length u → before e (drop i u) ≡ (eqb (getD u i 0) e || before e (drop (i + 1) u))
     step h =
-        let d : drop i u ≡ getD u i 0 ∷ drop (i + 1) u = drop-cons u i 0 (omega arith) ∙ ap (λ (n : ℕ). getD u i 0 ∷ drop n u) (sym (add-one i)) in
-        ap (before e) d ∙ before-cons e (getD u i 0) (drop (i + 1) u) (omega (arith, length-drop (i + 1) u))
+        ap (before e) (drop-step u i 0 (omega arith)) ∙ before-cons e (getD u i 0) (drop (i + 1) u) (omega (arith, length-drop (i + 1) u))
 
     pub before-hit : i + 1 < length u → getD u i 0 ≡ e → true ≡ before e u
     before-hit h f = ap (λ (b : Bool). b || before e (drop (i + 1) u)) (sym (eq-eqb (getD u i 0) e f)) ∙ sym (step h) ∙ same

@@ -99,11 +99,7 @@ module _ (k q rest base rested : ℕ) (b : Base k q base) (r : Base k rest reste
       let is : 2 * base - 1 ≡ rowAt k q = omega (arith, b, twice q k) in
       is ∙ ap (λ (t : Bool). elim t as (λ x. ℕ) [ true ↦ resting | false ↦ rowAt k q ]) (sym (ne-eqb q rest other))
 
--- ---- rows one after the other
-
--- the first of those that are left, and the rest
-pub drop-step : {A : Type 0} (l : List A) (i : ℕ) (d : A) → i < length l → drop i l ≡ getD l i d ∷ drop (i + 1) l
-drop-step l i d h = drop-cons l i d h ∙ ap (λ (j : ℕ). getD l i d ∷ drop j l) (sym (add-one i))
+-- ---- all rows
 
 -- how many numbers all have
 pub rows-most : (s k : ℕ) → s ≤ most-states → k ≤ most-tags → s * (2 * k + 2) ≤ 25088

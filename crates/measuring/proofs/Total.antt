@@ -1,18 +1,16 @@
 -- How many numbers a table has: what is left to measure makes up the whole.
 use Prim.Native.Nat.{ℕ, _+_, _*_, _≤_, _<_}
 use native.Mathlib.Omega.{arith}
-use native.Mathlib.Numerals.{add-one}
 use mathlib.Core.Path.{_≡_, sym, ap, _∙_}
-use mathlib.Core.List.{List, _∷_}
+use mathlib.Core.List.{List}
 use lib.ListN.{length, drop, getD, length-append, drop-of-length-le}
-use lib.Seq.{drop-cons}
+use Rattle.words.proofs.Word.{drop-step}
 use Rattle.transducers.specs.Table.{Step, Row, no-step, no-row, row}
 use Rattle.tables.specs.Bytes.{joined}
 use Rattle.steps.specs.Entry.{countOf}
 use Rattle.decoder.specs.Index.{Loaded}
 use Rattle.loaded.specs.Numbers.{rowAt, behind, stepsBehind, rowBehind, firstResting, rowsNumbers, numbers}
 use Rattle.loaded.proofs.Rows.{rows-numbers-length}
-use Rattle.entries.proofs.Numbers.{drop-step}
 
 module _ (bs ix : List ℕ) (k : ℕ) (l : Loaded bs k ix) where
   module _ (q cell : ℕ) (h : q < length (l .table)) (is : cell ≡ q * (k + 1)) where
@@ -33,13 +31,11 @@ module _ (bs ix : List ℕ) (k : ℕ) (l : Loaded bs k ix) where
     pub measure-next : (total n a : ℕ) → a < k → total + length (stepsBehind (drop a (y .steps))) ≡ length (rowBehind y)
         → n ≡ length (behind (getD (y .steps) a no-step .output)) → total + n + length (stepsBehind (drop (a + 1) (y .steps))) ≡ length (rowBehind y)
     measure-next total n a ha so e =
-        let split : drop a (y .steps) ≡ getD (y .steps) a no-step ∷ drop (a + 1) (y .steps) =
-        drop-cons (y .steps) a no-step (omega (arith, ha, l .valid .whole q h)) ∙ ap (λ (j : ℕ). getD (y .steps) a no-step ∷ drop j (y .steps)) (sym (add-one a)) in
         omega (
           arith,
           so,
           e,
-          ap (λ (m : List Step). length (stepsBehind m)) split,
+          ap (λ (m : List Step). length (stepsBehind m)) (drop-step (y .steps) a no-step (omega (arith, ha, l .valid .whole q h))),
           length-append (behind (getD (y .steps) a no-step .output)) (stepsBehind (drop (a + 1) (y .steps))),
         )
 

@@ -5,11 +5,11 @@ use mathlib.Core.Path.{_≡_, refl, sym, ap, ap₂, _∙_}
 use mathlib.Core.List.{List, [], _∷_, _++_}
 use lib.ListN.{length, drop, getD, set, length-append, drop-of-length-le}
 use lib.Seq.{sets}
+use Rattle.words.proofs.Word.{drop-step}
 use Rattle.words.proofs.Regions.{sets-more, set-sets}
 use Rattle.transducers.specs.Table.{Step, no-step}
 use Rattle.loaded.specs.Numbers.{entry, behind, nextAt, stepNumbers, stepsBehind}
 use Rattle.entries.specs.State.{Base}
-use Rattle.entries.proofs.Numbers.{drop-step}
 use Rattle.rows.specs.Parts.{StepsHere, StepsWritten, RowHere, RowWritten}
 
 -- ---- steps

@@ -7,6 +7,7 @@ use mathlib.Core.Path.{_≡_, refl, sym, ap, ap₂, _∙_, subst}
 use mathlib.Core.List.{List, [], _∷_, _++_}
 use lib.ListN.{length, drop, getD, length-append, drop-of-length-le}
 use lib.Seq.{sets}
+use Rattle.words.proofs.Word.{drop-step}
 use Rattle.words.proofs.Regions.{sets-more, sets-sets}
 use Rattle.transducers.specs.Table.{Row, Table, no-row, row, step}
 use Rattle.tables.specs.Bytes.{joined}
@@ -14,7 +15,6 @@ use Rattle.steps.specs.Entry.{FinalEntry, StepEntry}
 use Rattle.loaded.specs.Numbers.{rowAt, rowBehind, rowNumbers, rowsNumbers}
 use Rattle.loaded.proofs.Rows.{row-numbers-length}
 use Rattle.entries.specs.State.{Base}
-use Rattle.entries.proofs.Numbers.{drop-step}
 use Rattle.rows.specs.Parts.{RowHere, RowWritten, Source, RowsWritten}
 
 pub record RowsGoing (t : Table) (k s rested : ℕ) (b₀ b : List ℕ) (q place p : ℕ) : Type 0 where

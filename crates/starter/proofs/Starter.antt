@@ -5,7 +5,7 @@ use mathlib.Core.Path.{_≡_, refl, sym, ap, _∙_}
 use mathlib.Core.List.{List, _++_}
 use borrow.Author.Tests.{le-leb, lt-leb}
 use lib.ListN.{length, drop}
-use Rattle.limits.specs.Limits.{most-states, no-end, work-entries}
+use Rattle.limits.specs.Limits.{no-end, work-entries}
 use Rattle.answers.specs.Outcome.{Outcome, result, refused, nothing, provided}
 use Rattle.answers.specs.Slice.{fitting, written}
 use Rattle.books.specs.Ending.{readEnding}

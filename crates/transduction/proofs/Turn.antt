@@ -1,13 +1,12 @@
 -- The run of a table: words put out one after the other.
 use Prim.Native.Nat.{ℕ, _+_, _*_, _<_, _≤_, _-_}
-use native.Mathlib.Numerals.{add-one}
 use native.Mathlib.Nat.{zero-mul}
 use native.Mathlib.Omega.{arith}
 use mathlib.Core.Path.{_≡_, refl, sym, ap, _∙_}
 use mathlib.Core.List.{List, [], _∷_, _++_, append-assoc}
 use lib.ListN.{length, take, drop, getD}
-use lib.Seq.{drop-cons, drop-length, take-length, paste}
-use Rattle.words.proofs.Word.{below-at}
+use lib.Seq.{drop-length, take-length, paste}
+use Rattle.words.proofs.Word.{drop-step, below-at}
 use Rattle.answers.specs.Outcome.{Outcome}
 use Rattle.transducers.specs.Transducer.{puts}
 use Rattle.transducers.specs.Table.{Step, Table, row, step, shape}
@@ -112,7 +111,7 @@ module _ {bs ix sentence out₀ out : List ℕ} {i at base : ℕ} (g : Going bs 
         running-next base' b =
             let next = v .next in
             let rest = drop (i + 1) sentence in
-            let tag : drop i sentence ≡ a ∷ rest = rw add-one (drop-cons sentence i 0 h) in
+            let tag : drop i sentence ≡ a ∷ rest = drop-step sentence i 0 h in
             record {
               state = next;
               below = p .loaded .valid .next-below q a (r .below) a-below;

@@ -2,14 +2,14 @@
 use Prim.Native.Nat.{ℕ, _+_, _*_, _≤_, _<_}
 use native.Mathlib.Omega.{arith}
 use native.Mathlib.Decide.{decLt}
-use native.Mathlib.Numerals.{add-one}
 use mathlib.Core.Path.{_≡_, refl, sym, ap, _∙_}
 use mathlib.Core.Bool.{Bool, true, false}
 use mathlib.Core.List.{List, [], _∷_, _++_, append-assoc}
 use borrow.Author.Tests.{eqb-true, eqb-false, eq-eqb, ne-eqb, le-leb, lt-leb}
 use lib.Dec.{eqb}
 use lib.ListN.{length, take, drop, getD, length-append, length-drop, drop-of-length-le}
-use lib.Seq.{drop-cons, length-take-le}
+use lib.Seq.{length-take-le}
+use Rattle.words.proofs.Word.{drop-step}
 use Rattle.answers.specs.Outcome.{Outcome, result, refused, andThen, provided}
 use Rattle.tables.specs.Decode.{malformed}
 use Rattle.loaded.specs.Numbers.{rowSize, resting}
@@ -103,8 +103,7 @@ module _ (ns : List ℕ) (k : ℕ) (s b₀ b : List ℕ) (i at p : ℕ) (g : Goi
 
     way-here : way ns k 1 s ≡ after (take at b) (andThen (wordOf ns entry) (λ u. after u (onto ns k next rest)))
     way-here =
-        let one : drop i s ≡ tag ∷ rest = drop-cons s i 0 h ∙ ap (λ (j : ℕ). getD s i 0 ∷ drop j s) (sym (add-one i)) in
-        g .so-far ∙ ap (λ (w : List ℕ). after (take at b) (way ns k p w)) one
+        g .so-far ∙ ap (λ (w : List ℕ). after (take at b) (way ns k p w)) (drop-step s i 0 h)
         ∙ rw (le-leb (p + rowSize k) (length ns) (g .inside)) refl
 
     -- the word is too long, or none

@@ -1,4 +1,4 @@
--- Words whose tags are all below k; the test for a prefix; equality as a test.
+-- Words whose tags are all below k; what is left of a list; the test for a prefix; equality as a test.
 use Prim.Native.Nat.{ℕ, zero, suc, _+_, _≤_, _<_}
 use native.Mathlib.Omega.{arith}
 use native.Mathlib.Decide.{decLt}
@@ -20,6 +20,10 @@ below-suc i n h = by (decLt i n)
     by : Dec (i < n) → (i < n) ⊎ (i ≡ n)
     by (yes lt) = inl lt
     by (no nlt) = inr (omega arith)
+
+-- the first of what is left of a list, and the rest
+pub drop-step : {A : Type 0} (l : List A) (i : ℕ) (d : A) → i < length l → drop i l ≡ getD l i d ∷ drop (i + 1) l
+drop-step l i d h = drop-cons l i d h ∙ ap (λ (j : ℕ). getD l i d ∷ drop j l) (sym (add-one i))
 
 -- below k, and so below every greater number
 pub below-mono : (k m : ℕ) (w : List ℕ) → k ≤ m → Below k w → Below m w
