@@ -16,7 +16,7 @@
 
 enum { LIBRARY, PLAIN, BOTH };
 /* Those that need no table come first. */
-enum call { COMPILE, RUN_BOOK, RUN_ENDING, RUN_RULES, RUN_TABLE, LOAD, RUN_LOADED, RUN_TAG, GIVE, LOOK };
+enum call { COMPILE, COMPILE_NARROW, RUN_BOOK, RUN_ENDING, RUN_RULES, RUN_TABLE, LOAD, RUN_LOADED, RUN_TAG, GIVE, LOOK };
 enum { PASSES = 8, ROUNDS = 6, MOST_TIMES = 100000, MOST_BOOKS = 64, NAME = 48 };
 
 struct workload {
@@ -58,6 +58,7 @@ struct figures {
     double beside[BESIDE][BOTH], typing[TYPING][BOTH], alone[KINDS][LENGTHS][RUNS], full[LENGTHS][RUNS][BOTH];
     double unnumbered[LENGTHS], numbered[LENGTHS][BOTH]; /* runs without and with rule numbers, no end tag */
     double fresh, again; /* a compile whose work slice is fresh memory, and the next one */
+    double narrow[BOTH]; /* a compile with the narrowest limits that allow the book; plain C has none */
 };
 
 static uint8_t table[NEDZSUKA_LONGEST_TABLE], out[BOTH][NEDZSUKA_LONGEST_TABLE];
@@ -88,6 +89,35 @@ static uint64_t type(int which, enum call call, uint8_t tag)
                                                            NEDZSUKA_MOST_HELD);
 }
 
+/* The most tags in a pattern of the book. */
+static uint64_t longest_pattern(const struct figures *f)
+{
+    uint64_t tags = 0, most = 1;
+
+    for (size_t i = 2; f->book[i] != 0x00; i += f->book[i] == 0x22 ? 2 : 3) {
+        tags = f->book[i] == 0x22 ? tags + 1 : 0;
+        most = tags > most ? tags : most;
+    }
+    return most;
+}
+
+static size_t narrow_entries(const struct figures *f)
+{
+    uint64_t size = nedzsuka_value(nedzsuka_read_book(f->book, f->book_len));
+
+    return nedzsuka_work_entries_within(longest_pattern(f), size % 256, size / 256, f->ceiling, size / 256, size % 256);
+}
+
+static uint64_t compile_narrow(int which)
+{
+    uint64_t size = nedzsuka_value(nedzsuka_read_book(timed->book, timed->book_len));
+
+    if (which == PLAIN)
+        return plain_compile(timed->book, timed->book_len, timed->ceiling, work, NEDZSUKA_MOST_WORK, out[which], sizeof out[which]);
+    return nedzsuka_compile_within(longest_pattern(timed), size % 256, size / 256, timed->book, timed->book_len, NEDZSUKA_NO_END,
+                                   timed->ceiling, work, narrow_entries(timed), out[which], sizeof out[which]);
+}
+
 static uint64_t call(int which, const struct workload *load)
 {
     const uint8_t *sentence = sentences.tags[load->kind][load->length];
@@ -97,6 +127,8 @@ static uint64_t call(int which, const struct workload *load)
     case COMPILE:
         return (which == LIBRARY ? nedzsuka_compile : plain_compile)(timed->book, timed->book_len, timed->ceiling, work,
                                                                      NEDZSUKA_MOST_WORK, out[which], sizeof out[which]);
+    case COMPILE_NARROW:
+        return compile_narrow(which);
     case RUN_BOOK:
         return (which == LIBRARY ? nedzsuka_run_book : plain_run_book)(timed->book, timed->book_len, sentence, tags, out[which], tags);
     case RUN_ENDING:
@@ -248,6 +280,14 @@ static void measure_fresh(struct figures *f)
     munmap(fresh, entries * sizeof *fresh);
 }
 
+static void measure_narrow(struct figures *f)
+{
+    struct workload load = {"the narrowest limits", COMPILE_NARROW, RANDOM, OF_20};
+
+    agree(f->name, &load);
+    measure(&load, f->narrow, PLAIN);
+}
+
 static void bench(struct figures *f)
 {
     uint64_t answer = plain_compile(f->book, f->book_len, f->ceiling, work, NEDZSUKA_MOST_WORK, table, sizeof table);
@@ -264,6 +304,7 @@ static void bench(struct figures *f)
     measure_full(f);
     measure_rules(f);
     measure_fresh(f);
+    measure_narrow(f);
 }
 
 static int read_line(struct figures *f)
@@ -390,6 +431,18 @@ static void print_fresh(const struct figures *figures, int books)
         printf("%-42s %6d %13.2f %13.2f\n", figures[b].name, figures[b].states, figures[b].fresh * 1e6, figures[b].again * 1e6);
 }
 
+static void print_narrow(const struct figures *figures, int books)
+{
+    printf("\n%-42s %6s %13s %13s %13s %13s\n", "compile, limits 6, 16 and 48 or the narrowest", "states", "entries", "narrowest",
+           "microseconds", "narrowest");
+    for (int b = 0; b < books; b++) {
+        uint64_t size = nedzsuka_value(nedzsuka_read_book(figures[b].book, figures[b].book_len));
+        printf("%-42s %6d %13zu %13zu %13.2f %13.2f\n", figures[b].name, figures[b].states,
+               nedzsuka_work_entries(figures[b].ceiling, size / 256, size % 256), narrow_entries(&figures[b]),
+               figures[b].beside[0][LIBRARY] * 1e6, figures[b].narrow[LIBRARY] * 1e6);
+    }
+}
+
 int main(void)
 {
     static struct figures figures[MOST_BOOKS];
@@ -411,6 +464,7 @@ int main(void)
     print_full(figures, books);
     print_rules(figures, books);
     print_fresh(figures, books);
+    print_narrow(figures, books);
     free(work);
     return 0;
 }

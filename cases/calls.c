@@ -26,7 +26,8 @@
    of the table.
 
    With ending END in front, run_book, run_rules, run_compiled, compile, slices and one_rules make the calls that name an end tag; for
-   run_rules it is 255 otherwise.
+   run_rules it is 255 otherwise. With within PATTERN RULES TAGS before that, or in front, run_table, run_book, run_compiled, compile and
+   slices make the calls that name limits.
 
    ROOM is the length of the output slice, ENTRIES that of the work slice; bytes are pairs of hexadecimal digits, numbers decimal. Output
    and work slices are the front of longer memory, which holds sevens before each call; typing, run_rules and starter tell where other
@@ -48,7 +49,8 @@ static uint8_t first[MOST_BYTES], sentence[MOST_BYTES], out[MOST_BYTES], rules[M
 static uint16_t work[MOST_ENTRIES];
 static uint32_t loaded[MOST_NUMBERS];
 static uint8_t end_tag;
-static int with_end; /* whether the line names an end tag */
+static int with_end, with_limits; /* whether the line names an end tag, or limits */
+static uint64_t pattern_limit, rules_limit, tags_limit;
 
 static void unreadable(const char *why)
 {
@@ -180,8 +182,17 @@ static void starter(void)
     print_beyond(out, room);
 }
 
+static uint64_t run_table(const uint8_t *table, size_t table_len, size_t length, uint8_t *to, size_t room)
+{
+    if (with_limits)
+        return nedzsuka_run_table_within(pattern_limit, rules_limit, tags_limit, table, table_len, sentence, length, to, room);
+    return nedzsuka_run_table(table, table_len, sentence, length, to, room);
+}
+
 static uint64_t run_book(size_t book_len, size_t length, uint8_t *to, size_t room)
 {
+    if (with_limits)
+        return nedzsuka_run_book_within(pattern_limit, rules_limit, tags_limit, first, book_len, end_tag, sentence, length, to, room);
     if (with_end)
         return nedzsuka_run_book_ending(first, book_len, end_tag, sentence, length, to, room);
     return nedzsuka_run_book(first, book_len, sentence, length, to, room);
@@ -189,6 +200,8 @@ static uint64_t run_book(size_t book_len, size_t length, uint8_t *to, size_t roo
 
 static uint64_t compile_book(size_t book_len, uint64_t ceiling, size_t entries, size_t room)
 {
+    if (with_limits)
+        return nedzsuka_compile_within(pattern_limit, rules_limit, tags_limit, first, book_len, end_tag, ceiling, work, entries, out, room);
     if (with_end)
         return nedzsuka_compile_ending(first, book_len, end_tag, ceiling, work, entries, out, room);
     return nedzsuka_compile(first, book_len, ceiling, work, entries, out, room);
@@ -198,7 +211,7 @@ static void run(int table)
 {
     size_t room = read_number(MOST_BYTES), first_len = read_bytes(first, 1), length = read_bytes(sentence, 0);
 
-    print_run(table ? nedzsuka_run_table(first, first_len, sentence, length, out, room) : run_book(first_len, length, out, room), room);
+    print_run(table ? run_table(first, first_len, length, out, room) : run_book(first_len, length, out, room), room);
 }
 
 static void run_rules(void)
@@ -221,7 +234,7 @@ static void run_compiled(void)
         return;
     memcpy(first, out, (size_t)nedzsuka_value(answer));
     memset(out, 7, sizeof out);
-    print_run(nedzsuka_run_table(first, (size_t)nedzsuka_value(answer), sentence, length, out, room), room);
+    print_run(run_table(first, (size_t)nedzsuka_value(answer), length, out, room), room);
 }
 
 static void run_loaded(void)
@@ -247,8 +260,8 @@ static int agreements(size_t book_len, size_t table_len)
         }
         memset(by, 7, sizeof by);
         answer = run_book(book_len, length, by[0], LENGTHS);
-        same += nedzsuka_refusal(answer) == NEDZSUKA_OK &&
-                nedzsuka_run_table(out, table_len, sentence, length, by[1], LENGTHS) == answer && memcmp(by[0], by[1], LENGTHS) == 0;
+        same += nedzsuka_refusal(answer) == NEDZSUKA_OK && run_table(out, table_len, length, by[1], LENGTHS) == answer &&
+                memcmp(by[0], by[1], LENGTHS) == 0;
     }
     return same;
 }
@@ -383,6 +396,17 @@ static void type(void)
     }
 }
 
+static const char *read_limits(const char *word)
+{
+    with_limits = word != NULL && strcmp(word, "within") == 0;
+    if (!with_limits)
+        return word;
+    pattern_limit = read_number(UINT64_MAX);
+    rules_limit = read_number(UINT64_MAX);
+    tags_limit = read_number(UINT64_MAX);
+    return strtok(NULL, " \n");
+}
+
 static const char *read_ending(const char *word)
 {
     with_end = word != NULL && strcmp(word, "ending") == 0;
@@ -405,7 +429,7 @@ static void fill_slices(void)
 
 static void answer_line(const char *word)
 {
-    word = read_ending(word);
+    word = read_ending(read_limits(word));
     word = word == NULL ? "" : word;
     fill_slices();
     if (strcmp(word, "run_table") == 0 || strcmp(word, "run_book") == 0)

@@ -785,3 +785,81 @@ run_starter '0 1 0 1' '00 01 00 01' '1 changed, output 0 2 0 1 7 7 7'
 run_starter '0 0 1 47 0 1' '00 00 01 2f 00 01' '1 changed, output 0 0 2 47 0 1 7'
 run_starter '1 0 2 0 47 1' '01 00 02 00 2f 01' '0 changed, output 1 0 2 0 47 1 7'
 run_starter 'a tag not below K' '00 01 30' 'refused 4, output 7 7 7 7 7 7 7'
+
+# ---- Limits ----
+
+# pattern N: a rule over two tags whose pattern is N - 1 zeros and a one, and which makes its first tag 1.
+pattern() { echo "20 02 21 00 01$(times $(($1 - 1)) ' 22 00') 22 01 00"; }
+
+# within NAME LIMITS CEILING BOOK RESULT: compiled with the longest slices.
+within() { call "$1, limits $2" "within $2 compile $3 1081344 65536 $4" "$5"; }
+
+# Tags in a pattern: seven and eight pass where eight are allowed; beyond the limit is 3. The rule of N tags has N states that hold 0 to N - 1
+# zeros, of 10 + 4 × held bytes each and 2 more in the last, and one of 12 behind the match.
+for length in 7 8; do
+    bytes=$((4 + 10 * length + 2 * length * (length - 1) + 2 + 12 + 1))
+    within "a pattern of $length" '8 16 48' $((length + 1)) "$(pattern $length)" "states $((length + 1)), bytes $bytes, $agree"
+    within "a pattern of $length" '8 16 48' $length "$(pattern $length)" 'refused 10 at rule 1'
+    within "a pattern of $length" '6 16 48' 256 "$(pattern $length)" 'refused 3'
+done
+within 'a pattern of 8' '7 16 48' 256 "$(pattern 8)" 'refused 3'
+within 'a pattern of 9' '8 16 48' 256 "$(pattern 9)" 'refused 3'
+within 'book A' '2 1 2' 3 "$book_a" "states 3, bytes 43, $agree"
+within 'book A' '1 1 2' 3 "$book_a" 'refused 3'
+within '0 to 1' '1 1 2' 2 '20 02 21 00 01 22 00 00' "states 2, bytes 29, $agree"
+# Rules and K
+within 'two rules' '1 2 2' 256 '20 02 21 00 01 22 00 21 00 00 22 01 00' "states 3, bytes 41, $agree"
+within 'two rules' '1 1 2' 256 '20 02 21 00 01 22 00 21 00 00 22 01 00' 'refused 7'
+within '16 rules' '6 16 48' 256 "$rules 00" "states 3, bytes 41, $agree"
+within '16 rules' '6 15 48' 256 "$rules 00" 'refused 7'
+within 'K 2' '6 16 2' 1 '20 02 00' "states 1, bytes 17, $agree"
+within 'K 3' '6 16 2' 1 '20 03 00' 'refused 2'
+within 'K 48' '6 16 48' 1 '20 30 00' "states 1, bytes 247, $agree"
+within 'K 48' '6 16 47' 1 '20 30 00' 'refused 2'
+
+# gives_17 LIMITS: before 8, the book's refusals, 14, 9 and 11, and from the runs before 12, 13, 4 and 11, with all slices as they were.
+gives_17() {
+    call "limits $1" "within $1 slices 3 1872 43 $book_a" 'refused 17; 0 entries and 0 bytes other than before'
+    call "limits $1, ceiling 0, end tag 77, no book, no slices" "within $1 ending 77 slices 0 0 0 " 'refused 17; 0 entries and 0 bytes other than before'
+    call "limits $1, run of book A" "within $1 run_book 3 $book_a / 00 01" 'refused 17, output 7 7 7'
+    call "limits $1, run of no book" "within $1 ending 77 run_book 1 / ff ff" 'refused 17, output 7'
+    call "limits $1, run of table A" "within $1 run_table 3 ${table_a[*]} / 00 01" 'refused 17, output 7 7 7'
+    call "limits $1, run of no table" "within $1 run_table 1 / $longer" 'refused 17, output 7'
+}
+for limits in '0 16 48' '9 16 48' '6 0 48' '6 17 48' '6 16 1' '6 16 49' '0 0 0' '4294967302 16 48' '6 18446744073709551615 48' '262 16 48'; do
+    gives_17 "$limits"
+done
+
+# The work slice: 2 × (2 + 2) × 3 × 3 × (1 + 8) entries for book A with L 2, and 2 × (8 + 2) × 3 × 3 × (7 + 8) with L 8.
+call 'book A, L 2, exactly what is needed' "within 2 1 2 slices 3 648 43 $book_a" 'states 3, bytes 43; 648 entries and 43 bytes other than before'
+call 'book A, L 2, one entry short' "within 2 1 2 slices 3 647 43 $book_a" 'refused 9; 0 entries and 0 bytes other than before'
+call 'book A, L 8, exactly what is needed' "within 8 1 2 slices 3 2700 43 $book_a" 'states 3, bytes 43; 2700 entries and 43 bytes other than before'
+call 'book A, L 8, the entries of L 6' "within 8 1 2 slices 3 1872 43 $book_a" 'refused 9; 0 entries and 0 bytes other than before'
+call 'book A, L 8, too low a ceiling' "within 8 1 2 slices 2 1800 43 $book_a" 'refused 10 at rule 1; 1800 entries and 0 bytes other than before'
+
+# Held tags: at most (L - 1) × 16.
+for limit in '1 0' '2 16' '6 80' '7 96' '8 112'; do
+    most=${limit#* }
+    [ "$most" -eq 0 ] || call "$most held tags, L ${limit% *}" "within ${limit% *} 1 2 run_table 2 $(ladder "$most") /" '0 changed, output 7 7'
+    call "$((most + 1)) held tags, L ${limit% *}" "within ${limit% *} 1 2 run_table 2 $(ladder $((most + 1))) /" 'refused 12, output 7 7'
+done
+for held in 81 96 112; do
+    call "$held held tags, L 8" "within 8 16 48 run_table 120 $(ladder $held) /$(times 118 ' 00')" "0 changed, output$(times 118 ' 0') 7 7"
+    call "$held held tags, L 6" "within 6 16 48 run_table 120 $(ladder $held) /$(times 118 ' 00')" "refused 12, output$(times 120 ' 7')"
+done
+call 'table A, K 2 allowed' "within 2 1 2 run_table 3 ${table_a[*]} / 00 01" '1 changed, output 1 1 7'
+call 'identity of K 3, K 2 allowed' "within 2 1 2 run_table 3 $(identity 3) / 00 01" 'refused 12, output 7 7 7'
+
+# Runs of a book, and of its table with the same limits
+call 'a pattern of 8, run' "within 8 1 2 run_book 10 $(pattern 8) / 00 00 00 00 00 00 00 00 01" '1 changed, output 0 1 0 0 0 0 0 0 1 7'
+call 'a pattern of 8, compiled and run' "within 8 1 2 run_compiled 10 $(pattern 8) / 00 00 00 00 00 00 00 00 01" '1 changed, output 0 1 0 0 0 0 0 0 1 7'
+call 'a pattern of 8, run with L 7' "within 7 1 2 run_book 3 $(pattern 8) / 00" 'refused 3, output 7 7 7'
+call 'three sentences, limits 2 1 4, end tag 3' "within 2 1 4 ending 3 run_book 13 $noun / 00 01 00 01 03 00 01 03 01 00 01 03" \
+    '3 changed, output 0 2 0 1 3 0 2 3 1 0 2 3 7'
+call 'limits 2 1 4, end tag 4' "within 2 1 4 ending 4 run_book 2 $noun / ff" 'refused 14, output 7 7'
+
+# ababb has the same table with all limits that allow it.
+for limits in '5 1 2' '5 16 48' '6 16 48' '7 3 9' '8 1 2' '8 16 48'; do
+    within 'ababb to abbbb' "$limits" 6 "$ababb" "states 6, bytes 87, $agree"
+done
+within 'ababb to abbbb' '4 16 48' 6 "$ababb" 'refused 3'

@@ -13,14 +13,15 @@
 #include "reference.h"
 #include "slices.h"
 
-enum { REFUSALS = 17, SIZES = 9, MOST_SHOWN = 4096, SECONDS_A_CALL = 100, RULES_ROOM = 2 * LONGEST_TRIED_SENTENCE };
+enum { REFUSALS = 18, SIZES = 9, MOST_SHOWN = 4096, SECONDS_A_CALL = 100, RULES_ROOM = 2 * LONGEST_TRIED_SENTENCE };
 enum { STATE, GIVEN, CLOSED, NUMBERS };
 
 static const char *const call_name[CALLS] = {
-    "nedzsuka_compile",         "nedzsuka_compile_ending", "nedzsuka_starter_table", "nedzsuka_run_book",
-    "nedzsuka_run_book_ending", "nedzsuka_run_book_rules", "nedzsuka_run_table",     "nedzsuka_read_book",
-    "nedzsuka_read_table",      "nedzsuka_load_table",     "nedzsuka_run_loaded",    "nedzsuka_open",
-    "nedzsuka_give",            "nedzsuka_look",           "nedzsuka_close"};
+    "nedzsuka_compile",         "nedzsuka_compile_ending",   "nedzsuka_compile_within",  "nedzsuka_starter_table",
+    "nedzsuka_run_book",        "nedzsuka_run_book_ending",  "nedzsuka_run_book_rules",  "nedzsuka_run_book_within",
+    "nedzsuka_run_table",       "nedzsuka_run_table_within", "nedzsuka_read_book",       "nedzsuka_read_table",
+    "nedzsuka_load_table",      "nedzsuka_run_loaded",       "nedzsuka_open",            "nedzsuka_give",
+    "nedzsuka_look",            "nedzsuka_close"};
 
 static struct {
     enum call call;
@@ -28,6 +29,7 @@ static struct {
     size_t length, sentence_len, work_len, out_len, rules_len;
     uint64_t ceiling, answer, expected;
     uint8_t end, tag;
+    struct limits limits;
     uint64_t number[NUMBERS]; /* of the typed sentence, before the call */
 } now;
 
@@ -56,7 +58,23 @@ static int is_typing(enum call call)
 
 static int is_run(enum call call)
 {
-    return call == RUN_BOOK || call == RUN_BOOK_ENDING || call == RUN_BOOK_RULES || call == RUN_TABLE || call == RUN_LOADED;
+    return call == RUN_BOOK || call == RUN_BOOK_ENDING || call == RUN_BOOK_RULES || call == RUN_BOOK_WITHIN || call == RUN_TABLE ||
+           call == RUN_TABLE_WITHIN || call == RUN_LOADED;
+}
+
+static int is_compile(enum call call)
+{
+    return call == COMPILE || call == COMPILE_ENDING || call == COMPILE_WITHIN;
+}
+
+static int has_limits(enum call call)
+{
+    return call == COMPILE_WITHIN || call == RUN_BOOK_WITHIN || call == RUN_TABLE_WITHIN;
+}
+
+static int has_table(enum call call)
+{
+    return call == RUN_TABLE || call == RUN_TABLE_WITHIN || call == READ_TABLE || call == LOAD_TABLE || is_typing(call);
 }
 
 static void print_input(void)
@@ -68,8 +86,9 @@ static void print_input(void)
         fprintf(stderr, "\n");
         return;
     }
-    print_hex(now.call == RUN_TABLE || now.call == READ_TABLE || now.call == LOAD_TABLE || is_typing(now.call) ? "table" : "book",
-              now.bytes, now.length);
+    print_hex(has_table(now.call) ? "table" : "book", now.bytes, now.length);
+    if (has_limits(now.call))
+        fprintf(stderr, "limits %" PRIu64 ", %" PRIu64 ", %" PRIu64 "\n", now.limits.pattern, now.limits.rules, now.limits.tags);
     if (is_typing(now.call))
         fprintf(stderr, "state %" PRIu64 ", given %" PRIu64 ", closed %" PRIu64 ", tag %d\n", now.number[STATE], now.number[GIVEN],
                 now.number[CLOSED], now.tag);
@@ -81,9 +100,10 @@ void fail(const char *what)
     fprintf(stderr, "answer %" PRIu64 " with refusal %" PRIu64 ", expected %" PRIu64 " with refusal %" PRIu64 "\n", now.answer >> 8,
             now.answer & 255, now.expected >> 8, now.expected & 255);
     print_input();
-    if (now.call == COMPILE_ENDING || now.call == RUN_BOOK_ENDING || now.call == RUN_BOOK_RULES)
+    if (now.call == COMPILE_ENDING || now.call == COMPILE_WITHIN || now.call == RUN_BOOK_ENDING || now.call == RUN_BOOK_RULES ||
+        now.call == RUN_BOOK_WITHIN)
         fprintf(stderr, "end tag %d\n", now.end);
-    if (now.call == COMPILE || now.call == COMPILE_ENDING)
+    if (is_compile(now.call))
         fprintf(stderr, "ceiling %" PRIu64 ", work slice of %zu entries, ", now.ceiling, now.work_len);
     else if (is_run(now.call))
         print_hex("sentence", now.sentence, now.sentence_len);
@@ -119,13 +139,13 @@ void start_calls(uint64_t seed)
     sentence_slice = make_slice(LONGEST_TRIED_SENTENCE);
     out_slice = make_slice(TABLE_ROOM);
     rules_slice = make_slice(RULES_ROOM);
-    work_slice = make_slice((MOST_WORK + 1000) * sizeof(uint16_t));
+    work_slice = make_slice((WIDEST_WORK + 1000) * sizeof(uint16_t));
     loaded_slice = make_slice(TABLE_ROOM * sizeof(uint32_t));
     for (int i = 0; i < NUMBERS; i++)
         number_slice[i] = make_slice(sizeof(uint64_t));
     expected_out = room_for(TABLE_ROOM);
     expected_rules = room_for(RULES_ROOM);
-    expected_work = room_for((MOST_WORK + 1000) * sizeof(uint16_t));
+    expected_work = room_for((WIDEST_WORK + 1000) * sizeof(uint16_t));
     expected_loaded = room_for(TABLE_ROOM * sizeof(uint32_t));
     for (size_t i = 0; i < sizeof caught / sizeof *caught; i++)
         signal(caught[i], on_signal);
@@ -139,6 +159,11 @@ size_t states_of(const uint8_t *table)
 size_t work_entries(size_t ceiling, size_t tags, size_t rules)
 {
     return 16 * ceiling * (tags + 1) * (5 * rules + 8);
+}
+
+size_t work_entries_within(size_t pattern, size_t ceiling, size_t tags, size_t rules)
+{
+    return 2 * (pattern + 2) * ceiling * (tags + 1) * ((pattern - 1) * rules + 8);
 }
 
 static void lend_input(struct slice *slice, const uint8_t *bytes, size_t length)
@@ -181,7 +206,7 @@ static void count_answer(void)
 
     calls_made++;
     refusals[now.call][refusal]++;
-    if (now.call != COMPILE && now.call != COMPILE_ENDING)
+    if (!is_compile(now.call))
         return;
     if (refusal == 10)
         ten_at[now.ceiling]++;
@@ -230,12 +255,26 @@ static void compile_both(void)
         now.expected = reference_compile(now.bytes, now.length, now.ceiling, expected_work, now.work_len, expected_out, now.out_len);
         alarm(SECONDS_A_CALL);
         now.answer = nedzsuka_compile(book, now.length, now.ceiling, work, now.work_len, out, now.out_len);
+    } else if (now.call == COMPILE_WITHIN) {
+        now.expected = reference_compile_within(now.limits.pattern, now.limits.rules, now.limits.tags, now.bytes, now.length, now.end,
+                                                now.ceiling, expected_work, now.work_len, expected_out, now.out_len);
+        alarm(SECONDS_A_CALL);
+        now.answer = nedzsuka_compile_within(now.limits.pattern, now.limits.rules, now.limits.tags, book, now.length, now.end,
+                                             now.ceiling, work, now.work_len, out, now.out_len);
     } else {
         now.expected = reference_compile_ending(now.bytes, now.length, now.end, now.ceiling, expected_work, now.work_len,
                                                 expected_out, now.out_len);
         alarm(SECONDS_A_CALL);
         now.answer = nedzsuka_compile_ending(book, now.length, now.end, now.ceiling, work, now.work_len, out, now.out_len);
     }
+}
+
+/* What the header says is enough for the table of a valid book. */
+static size_t most_bytes(uint64_t ceiling, const uint8_t *book)
+{
+    if (now.call != COMPILE_WITHIN)
+        return nedzsuka_table_bytes(ceiling, book[1], rules_in(book));
+    return nedzsuka_table_bytes_within(now.limits.pattern, now.limits.rules, now.limits.tags, ceiling, book[1], rules_in(book));
 }
 
 static uint64_t compare_compiling(enum call call, const uint8_t *book, size_t book_len, unsigned end, uint64_t ceiling,
@@ -256,7 +295,7 @@ static uint64_t compare_compiling(enum call call, const uint8_t *book, size_t bo
     check_out();
     check_output(&work_slice, expected_work, "the work slice isn't what the papers say");
     count_answer();
-    if ((now.answer & 255) == 0 && now.answer >> 8 > nedzsuka_table_bytes(ceiling, book[1], rules_in(book)))
+    if ((now.answer & 255) == 0 && now.answer >> 8 > most_bytes(ceiling, book))
         fail("a longer table than the header allows");
     return now.answer;
 }
@@ -270,6 +309,13 @@ uint64_t compare_compile_ending(const uint8_t *book, size_t book_len, unsigned e
                                 size_t out_len)
 {
     return compare_compiling(COMPILE_ENDING, book, book_len, end, ceiling, work_len, out_len);
+}
+
+uint64_t compare_compile_within(struct limits limits, const uint8_t *book, size_t book_len, unsigned end, uint64_t ceiling,
+                                size_t work_len, size_t out_len)
+{
+    now.limits = limits;
+    return compare_compiling(COMPILE_WITHIN, book, book_len, end, ceiling, work_len, out_len);
 }
 
 uint64_t compare_starter(size_t out_len)
@@ -287,6 +333,24 @@ uint64_t compare_starter(size_t out_len)
     check_out();
     count_answer();
     return now.answer;
+}
+
+static void run_within(void)
+{
+    const uint8_t *bytes = first_slice.at, *sentence = sentence_slice.at;
+    uint64_t pattern = now.limits.pattern, rules = now.limits.rules, tags = now.limits.tags;
+    size_t length = now.length, count = now.sentence_len, room = now.out_len;
+
+    if (now.call == RUN_BOOK_WITHIN)
+        now.expected = reference_run_book_within(pattern, rules, tags, now.bytes, length, now.end, now.sentence, count, expected_out,
+                                                 room);
+    else
+        now.expected = reference_run_table_within(pattern, rules, tags, now.bytes, length, now.sentence, count, expected_out, room);
+    alarm(SECONDS_A_CALL);
+    if (now.call == RUN_BOOK_WITHIN)
+        now.answer = nedzsuka_run_book_within(pattern, rules, tags, bytes, length, now.end, sentence, count, out_slice.at, room);
+    else
+        now.answer = nedzsuka_run_table_within(pattern, rules, tags, bytes, length, sentence, count, out_slice.at, room);
 }
 
 static void run_both(void)
@@ -325,7 +389,10 @@ uint64_t compare_run(enum call call, const uint8_t *bytes, size_t length, const 
     lend_input(&first_slice, bytes, length);
     lend_input(&sentence_slice, sentence, sentence_len);
     lend_random(&out_slice, out_len, expected_out);
-    run_both();
+    if (has_limits(call))
+        run_within();
+    else
+        run_both();
     check_call();
     check_out();
     check_input(&sentence_slice, sentence, "the call changes its sentence");
@@ -338,6 +405,14 @@ uint64_t compare_run_ending(const uint8_t *book, size_t book_len, unsigned end, 
 {
     now.end = (uint8_t)end;
     return compare_run(RUN_BOOK_ENDING, book, book_len, sentence, sentence_len, out_len);
+}
+
+uint64_t compare_run_within(enum call call, struct limits limits, const uint8_t *bytes, size_t length, unsigned end,
+                            const uint8_t *sentence, size_t sentence_len, size_t out_len)
+{
+    now.limits = limits;
+    now.end = (uint8_t)end;
+    return compare_run(call, bytes, length, sentence, sentence_len, out_len);
 }
 
 static void count_numbers(void)

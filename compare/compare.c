@@ -9,6 +9,7 @@
 #include "ending.h"
 #include "everywhere.h"
 #include "generate.h"
+#include "limits.h"
 #include "loaded.h"
 #include "nedzsuka.h"
 #include "places.h"
@@ -618,6 +619,8 @@ static void compare_reordered(size_t times)
 static void compare_chosen(void)
 {
     compare_work_helper();
+    compare_limits_helpers();
+    compare_limits_cases();
     compare_published_runs();
     compare_published_tables();
     compare_every_byte_of_some();
@@ -645,6 +648,8 @@ static void compare_drawn(void)
     compare_tried_books(2500);
     tried_out += compare_ending_tried(600);
     compare_ending_books(6000);
+    compare_limited_books(12000);
+    compare_limited_tables(30000);
     compare_rules_books(9000);
     compare_bytes_of_books(30000);
     compare_damaged_books(60000);

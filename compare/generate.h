@@ -6,11 +6,13 @@
 #include <stdint.h>
 
 enum { MOST_TAGS = 48, MOST_RULES = 16, LONGEST_PATTERN = 6, MOST_STATES = 256, MOST_HELD = 80 };
+/* With the widest limits of document 02, W8. */
+enum { WIDEST_PATTERN = 8, WIDEST_HELD = 112 };
 enum { LONGEST_TRIED_SENTENCE = 70000, SOME_LENGTH = 120, NO_END = 255 };
-enum { LONGEST_BOOK = 2 + MOST_RULES * (3 + 2 * LONGEST_PATTERN) + 1, DAMAGED_ROOM = 16, LENGTHENED_ROOM = 5 };
+enum { LONGEST_BOOK = 2 + MOST_RULES * (3 + 2 * WIDEST_PATTERN) + 1, DAMAGED_ROOM = 16, LENGTHENED_ROOM = 5 };
 
 struct made_rule {
-    uint8_t pattern[LONGEST_PATTERN], length, place, new_tag, everywhere;
+    uint8_t pattern[WIDEST_PATTERN], length, place, new_tag, everywhere;
 };
 
 struct made_book {

@@ -5,18 +5,24 @@
 
 #include <string.h>
 
+/* The widest limits. */
 enum {
     MOST_TAGS = 48,
     MOST_RULES = 16,
-    LONGEST_PATTERN = 6,
+    LONGEST_PATTERN = 8,
     MOST_STATES = 256,
-    MOST_HELD = 80,
+    MOST_HELD = 112,
     NO_END = 255,
     LONGEST_SENTENCE = 65535,
     MOST_PAIRS = MOST_STATES * (LONGEST_PATTERN + 1),
-    LONGEST_WORD = 90,
-    LONGEST_TABLE = 2061157
+    LONGEST_WORD = 128,
+    LONGEST_TABLE = 2860837
 };
+
+/* Those of the call; where it names none, those of document 01. */
+static struct {
+    int pattern, rules, tags;
+} limits = {6, 16, 48};
 
 struct rule {
     uint8_t pattern[LONGEST_PATTERN];
@@ -69,7 +75,7 @@ static int read_command(struct book *book, uint8_t byte, enum expected *expected
         *expected = PATTERN_TAG;
         if (book->rules == 0)
             return 1;
-        return book->rule[book->rules - 1].length == LONGEST_PATTERN ? 3 : 0;
+        return book->rule[book->rules - 1].length == limits.pattern ? 3 : 0;
     }
     if (byte != 0x21 && byte != 0x24 && byte != 0x00)
         return 1;
@@ -80,7 +86,7 @@ static int read_command(struct book *book, uint8_t byte, enum expected *expected
         *expected = NOTHING;
         return 0;
     }
-    if (book->rules == MOST_RULES)
+    if (book->rules == limits.rules)
         return 7;
     book->rule[book->rules].everywhere = byte == 0x24;
     book->rule[book->rules++].length = 0;
@@ -96,7 +102,7 @@ static int read_operand(struct book *book, uint8_t byte, enum expected *expected
     *expected = now == PLACE ? NEW_TAG : COMMAND;
     if (now == TAGS) {
         book->tags = byte;
-        return byte < 2 || byte > MOST_TAGS ? 2 : 0;
+        return byte < 2 || byte > limits.tags ? 2 : 0;
     }
     last = &book->rule[book->rules - 1];
     if (now == PLACE) {
@@ -312,7 +318,7 @@ static int take_row(struct cursor *cursor, const struct machine *table, struct r
 {
     int command = take(cursor), held = take(cursor), next;
 
-    if (command != 0x31 || held < 0 || held > MOST_HELD)
+    if (command != 0x31 || held < 0 || held > (limits.pattern - 1) * 16)
         return 0;
     row->final.length = 0;
     for (int i = 0; i < held; i++)
@@ -351,7 +357,7 @@ static int read_table(const uint8_t *bytes, size_t length, struct machine *table
         return 0;
     table->tags = take(&cursor);
     table->states = take_number(&cursor);
-    if (table->tags < 2 || table->tags > MOST_TAGS || table->states < 1 || table->states > MOST_STATES)
+    if (table->tags < 2 || table->tags > limits.tags || table->states < 1 || table->states > MOST_STATES)
         return 0;
     for (int state = 0; state < table->states; state++)
         if (!take_row(&cursor, table, &table->row[state]))
@@ -1013,7 +1019,8 @@ uint64_t reference_compile_ending(const uint8_t *book_bytes, size_t book_len, ui
     refusal = read_book_ending(book_bytes, book_len, end, &book);
     if (refusal)
         return (uint64_t)refusal;
-    entries = 16 * (size_t)ceiling * (size_t)(book.tags + 1) * (size_t)(5 * book.rules + 8);
+    entries = 2 * (size_t)(limits.pattern + 2) * (size_t)ceiling * (size_t)(book.tags + 1) *
+              (size_t)((limits.pattern - 1) * book.rules + 8);
     if (work_len < entries)
         return 9;
     memset(work, 0, entries * sizeof *work);
@@ -1041,4 +1048,46 @@ uint64_t reference_starter_table(uint8_t *out, size_t out_len)
     static uint16_t work[16 * 3 * 49 * 13];
 
     return reference_compile(book, sizeof book, 3, work, sizeof work / sizeof *work, out, out_len);
+}
+
+/* ---- Calls with limits (document 02, W8) ---- */
+
+static int limits_taken(uint64_t pattern, uint64_t rules, uint64_t tags)
+{
+    if (pattern < 1 || pattern > LONGEST_PATTERN || rules < 1 || rules > MOST_RULES || tags < 2 || tags > MOST_TAGS)
+        return 0;
+    limits.pattern = (int)pattern;
+    limits.rules = (int)rules;
+    limits.tags = (int)tags;
+    return 1;
+}
+
+static uint64_t with_limits_left(uint64_t answer)
+{
+    limits_taken(6, 16, 48);
+    return answer;
+}
+
+uint64_t reference_compile_within(uint64_t pattern, uint64_t rules, uint64_t tags, const uint8_t *book, size_t book_len, uint8_t end,
+                                  uint64_t ceiling, uint16_t *work, size_t work_len, uint8_t *out, size_t out_len)
+{
+    if (!limits_taken(pattern, rules, tags))
+        return 17;
+    return with_limits_left(reference_compile_ending(book, book_len, end, ceiling, work, work_len, out, out_len));
+}
+
+uint64_t reference_run_book_within(uint64_t pattern, uint64_t rules, uint64_t tags, const uint8_t *book, size_t book_len, uint8_t end,
+                                   const uint8_t *sentence, size_t sentence_len, uint8_t *out, size_t out_len)
+{
+    if (!limits_taken(pattern, rules, tags))
+        return 17;
+    return with_limits_left(reference_run_book_ending(book, book_len, end, sentence, sentence_len, out, out_len));
+}
+
+uint64_t reference_run_table_within(uint64_t pattern, uint64_t rules, uint64_t tags, const uint8_t *table, size_t table_len,
+                                    const uint8_t *sentence, size_t sentence_len, uint8_t *out, size_t out_len)
+{
+    if (!limits_taken(pattern, rules, tags))
+        return 17;
+    return with_limits_left(reference_run_table(table, table_len, sentence, sentence_len, out, out_len));
 }

@@ -30,5 +30,11 @@ uint64_t reference_look(const uint8_t *table, size_t table_len, uint64_t state, 
                         size_t out_len);
 uint64_t reference_close(const uint8_t *table, size_t table_len, uint64_t *state, uint64_t *given, uint64_t *closed,
                          uint8_t *out, size_t out_len);
+uint64_t reference_compile_within(uint64_t pattern, uint64_t rules, uint64_t tags, const uint8_t *book, size_t book_len, uint8_t end,
+                                  uint64_t ceiling, uint16_t *work, size_t work_len, uint8_t *out, size_t out_len);
+uint64_t reference_run_book_within(uint64_t pattern, uint64_t rules, uint64_t tags, const uint8_t *book, size_t book_len, uint8_t end,
+                                   const uint8_t *sentence, size_t sentence_len, uint8_t *out, size_t out_len);
+uint64_t reference_run_table_within(uint64_t pattern, uint64_t rules, uint64_t tags, const uint8_t *table, size_t table_len,
+                                    const uint8_t *sentence, size_t sentence_len, uint8_t *out, size_t out_len);
 
 #endif

@@ -1,10 +1,11 @@
 /* nedzsuka: books of part-of-speech tag rules, and their smallest sequential transducers as tables.
 
-   A tag is a number from 0 to K - 1. A rule changes one tag of a pattern of 1 to 6 tags: the leftmost occurrence of the pattern in the
-   sentence, once; where it occurs nowhere, the sentence stays as it is. A rule that fires everywhere goes on: after a match, matching
-   begins again behind the match's last tag, and no tag of the old match counts for the next. A book applies its rules in order, each to
-   the result of the one before. A table is a sequential transducer: it starts in state 0, reads the tags once from left to right, puts
-   out zero or more tags at each, and at the end the final word of its state. A loaded table is a table as numbers, made for running.
+   A tag is a number from 0 to K - 1. A rule changes one tag of a pattern of 1 to 6 tags, or of 1 to 8 where a call takes limits: the
+   leftmost occurrence of the pattern in the sentence, once; where it occurs nowhere, the sentence stays as it is. A rule that fires
+   everywhere goes on: after a match, matching begins again behind the match's last tag, and no tag of the old match counts for the next.
+   A book applies its rules in order, each to the result of the one before. A table is a sequential transducer: it starts in state 0,
+   reads the tags once from left to right, puts out zero or more tags at each, and at the end the final word of its state. A loaded
+   table is a table as numbers, made for running.
 
    Which call is for what: nedzsuka_run_book for a book that is still edited; nedzsuka_run_book_rules for whoever corrects it and looks for
    the rule behind a changed tag; nedzsuka_run_table for a table that is used once; nedzsuka_load_table, once, and then
@@ -15,6 +16,9 @@
    nedzsuka_run_book_rules: they take an end tag, the number of the full stop. The slice is cut after each end tag, the rules are applied
    to each piece by itself, and the pieces are joined. A table that was compiled with an end tag does the same; its runs are those of any
    table. An end tag of 255 is none: the slice is one sentence, as for nedzsuka_compile and nedzsuka_run_book.
+
+   A house with longer patterns, or with few rules and little memory for compiling, calls nedzsuka_compile_within,
+   nedzsuka_run_book_within and nedzsuka_run_table_within: they take limits. All other calls have the limits 6, 16 and 48.
 
    What holds of every call
    - For any bytes, numbers and slices it ends, with a result or with a numbered refusal, and which one is fixed by what it was given.
@@ -44,11 +48,12 @@
    before; 24 p t does the same for a rule that fires everywhere; 22 t is the next tag of the rule's pattern; 00 closes the last rule and
    the book, and is the last byte. A book may mix both kinds of rules.
 
-   Bytes of a table: 30 K, then the number of states S in two bytes, the high one first; for each state 31 with the number of held
-   tags, 32 t for each of them, and for each tag 0 to K - 1 33 with the next state in two bytes, followed by 34 t for each tag put out;
-   00, the last byte. The held tags are the state's final word. A table is well formed if its bytes follow this layout, K is 2 to 48, S
-   is 1 to 256, each state holds at most 80 tags, every tag is below K, every next state below S, state 0 holds nothing, and each step
-   from a state that holds d tags to one that holds e puts out exactly d + 1 - e. It need not be the smallest. */
+   Bytes of a table: 30 K, then the number of states S in two bytes, the high one first; for each state 31 with the number of held tags, 32
+   t for each of them, and for each tag 0 to K - 1 33 with the next state in two bytes, followed by 34 t for each tag put out; 00, the last
+   byte. The held tags are the state's final word. A table is well formed if its bytes follow this layout, K is 2 to 48, S is 1 to 256,
+   each state holds at most 80 tags, every tag is below K, every next state below S, state 0 holds nothing, and each step from a state that
+   holds d tags to one that holds e puts out exactly d + 1 - e. It need not be the smallest. Where a call takes limits, the greatest K is
+   its limit for 48, and a state holds at most (L - 1) * 16 tags for 80, L being its limit of tags in a pattern. */
 #ifndef NEDZSUKA_H
 #define NEDZSUKA_H
 
@@ -56,14 +61,14 @@
 #include <stdint.h>
 
 /* The version, in words and as 10,000 * major + 100 * minor + patch. */
-#define NEDZSUKA_VERSION "0.6.0"
-#define NEDZSUKA_VERSION_NUMBER 600
+#define NEDZSUKA_VERSION "0.7.0"
+#define NEDZSUKA_VERSION_NUMBER 700
 
 #ifdef __cplusplus
 extern "C" {
 #endif
 
-/* The bounds. */
+/* The bounds, of calls that take no limits. */
 enum nedzsuka_bound {
     NEDZSUKA_LEAST_TAGS = 2,            /* K is at least this, */
     NEDZSUKA_MOST_TAGS = 48,            /* and at most this */
@@ -81,16 +86,27 @@ enum nedzsuka_bound {
                                            with two bytes each 35,323,904 bytes, about 34 MiB */
 };
 
+/* The greatest limits that a call takes, the least being 1, 1 and 2, and what follows from them. */
+enum nedzsuka_widest {
+    NEDZSUKA_WIDEST_PATTERN = 8,       /* tags in a pattern */
+    NEDZSUKA_WIDEST_RULES = 16,        /* rules in a book */
+    NEDZSUKA_WIDEST_TAGS = 48,         /* K */
+    NEDZSUKA_WIDEST_HELD = 112,        /* tags that a state holds */
+    NEDZSUKA_WIDEST_BOOK = 307,        /* bytes of a valid book: 2 + 16 * (3 + 8 * 2) + 1 */
+    NEDZSUKA_WIDEST_TABLE = 2860837,   /* bytes of a well-formed table: 4 + 242 + 255 * 11218 + 1 */
+    NEDZSUKA_WIDEST_WORK = 30105600    /* entries of the work slice that are enough for every call: 2 * 10 * 256 * 49 * 120 */
+};
+
 /* The refusals. */
 enum nedzsuka_refusal_number {
     NEDZSUKA_OK = 0,                 /* none: the answer carries a result */
     NEDZSUKA_BAD_COMMAND = 1,        /* book: a command unknown or out of place, bytes missing, or bytes after 00 */
-    NEDZSUKA_BAD_TAG_COUNT = 2,      /* book: K outside 2 to 48 */
-    NEDZSUKA_BAD_PATTERN = 3,        /* book: a pattern that is empty when its rule closes, or a seventh 22 */
+    NEDZSUKA_BAD_TAG_COUNT = 2,      /* book: K outside 2 to 48, or to its limit */
+    NEDZSUKA_BAD_PATTERN = 3,        /* book: a pattern that is empty when its rule closes, or a seventh 22, or one beyond its limit */
     NEDZSUKA_BAD_TAG = 4,            /* book, sentence or give: a tag or new tag not below K */
     NEDZSUKA_BAD_PLACE = 5,          /* book: p not below the pattern's length when the rule closes */
     NEDZSUKA_SAME_TAG = 6,           /* book: the new tag is the tag at p when the rule closes */
-    NEDZSUKA_TOO_MANY_RULES = 7,     /* book: a seventeenth rule, by 21 or 24 */
+    NEDZSUKA_TOO_MANY_RULES = 7,     /* book: a seventeenth rule, or one beyond its limit, by 21 or 24 */
     NEDZSUKA_BAD_CEILING = 8,        /* compile: a ceiling outside 1 to 256 */
     NEDZSUKA_SHORT_WORK = 9,         /* compile: fewer work entries than nedzsuka_work_entries says */
     NEDZSUKA_TOO_MANY_STATES = 10,   /* compile: the first i rules need more states than the ceiling; i is the answer's value */
@@ -99,7 +115,8 @@ enum nedzsuka_refusal_number {
     NEDZSUKA_LONG_SENTENCE = 13,     /* sentence: longer than 65,535 tags; give: 65,535 or more have been given */
     NEDZSUKA_BAD_END = 14,           /* calls with an end tag: the book cannot be used with it */
     NEDZSUKA_CLOSED = 15,            /* give, look and close: the sentence is closed */
-    NEDZSUKA_BAD_STATE = 16          /* give, look and close: the sentence's state is not below the table's S */
+    NEDZSUKA_BAD_STATE = 16,         /* give, look and close: the sentence's state is not below the table's S */
+    NEDZSUKA_BAD_LIMIT = 17          /* calls with limits: one of them is outside its range */
 };
 
 /* Compiles a book to its smallest table and answers the table's length in bytes.
@@ -137,6 +154,24 @@ uint64_t nedzsuka_compile(const uint8_t *book, size_t book_len, uint64_t ceiling
      it. The upper part is 0, and the work slice and the output slice keep what they had. */
 uint64_t nedzsuka_compile_ending(const uint8_t *book, size_t book_len, uint8_t end, uint64_t ceiling, uint16_t *work, size_t work_len,
                                  uint8_t *out, size_t out_len);
+
+/* Compiles a book as nedzsuka_compile_ending does, with the limits of the call: pattern for 6, the most tags in a pattern; rules for 16,
+   the most rules in a book; tags for 48, the greatest K. All that is said of nedzsuka_compile_ending holds with them. The table is well
+   formed with the same limits, and with all that are greater. A book that several limits allow gets the same bytes with each. Two books
+   over equally many tags that compile, each with its own limits and its own end tag, get the same bytes exactly if they make the same of
+   every sentence. With 6, 16 and 48 it is nedzsuka_compile_ending.
+
+   Refusals, in this order:
+   - 17: pattern is outside 1 to 8, or rules outside 1 to 16, or tags outside 2 to 48. The upper part is 0, and the work slice and the
+     output slice keep what they had.
+   - 8, 1 to 7, 14, 9, 10 and 11, as for nedzsuka_compile_ending: 2 if K is below 2 or above tags, 3 also for a 22 beyond pattern tags, 7
+     for a rule beyond rules, and 9 if work_len is below 2 * (pattern + 2) * ceiling * (K + 1) * ((pattern - 1) * m + 8) for a book of m
+     rules.
+
+   nedzsuka_work_entries_within and nedzsuka_table_bytes_within, below, give lengths of work and out that are enough. Small limits need
+   less memory, and are compiled with faster. */
+uint64_t nedzsuka_compile_within(uint64_t pattern, uint64_t rules, uint64_t tags, const uint8_t *book, size_t book_len, uint8_t end,
+                                 uint64_t ceiling, uint16_t *work, size_t work_len, uint8_t *out, size_t out_len);
 
 /* Writes the starter table to the front of out and answers its length, 731 bytes. It is the table of the starter book, which has 48 tags
    and one rule, 0 1 to 0 2, once:
@@ -187,6 +222,12 @@ uint64_t nedzsuka_run_book_ending(const uint8_t *book, size_t book_len, uint8_t 
 uint64_t nedzsuka_run_book_rules(const uint8_t *book, size_t book_len, uint8_t end, const uint8_t *sentence, size_t sentence_len,
                                  uint8_t *out, size_t out_len, uint8_t *rules, size_t rules_len);
 
+/* Runs a book as nedzsuka_run_book_ending does, with the limits of the call, which are those of nedzsuka_compile_within.
+
+   Refusals, in this order: 17, as for nedzsuka_compile_within, then 1 to 7 with these limits, 14, 13, 4 and 11. */
+uint64_t nedzsuka_run_book_within(uint64_t pattern, uint64_t rules, uint64_t tags, const uint8_t *book, size_t book_len, uint8_t end,
+                                  const uint8_t *sentence, size_t sentence_len, uint8_t *out, size_t out_len);
+
 /* Reads a book and answers K * 256 + the number of its rules.
 
    Refusals: 1 to 7, as for nedzsuka_compile. The upper part is the byte at which the refusal is given, counted from 0; book_len where
@@ -204,6 +245,13 @@ uint64_t nedzsuka_read_book(const uint8_t *book, size_t book_len);
    - 11: out_len is below sentence_len. */
 uint64_t nedzsuka_run_table(const uint8_t *table, size_t table_len, const uint8_t *sentence, size_t sentence_len, uint8_t *out,
                             size_t out_len);
+
+/* Runs a table as nedzsuka_run_table does, with the limits of the call, which are those of nedzsuka_compile_within. The limit of rules
+   plays no part. Run with the limits that it was compiled with, a table does what its book does with them.
+
+   Refusals, in this order: 17, as for nedzsuka_compile_within, then 12 with these limits, 13, 4 and 11. */
+uint64_t nedzsuka_run_table_within(uint64_t pattern, uint64_t rules, uint64_t tags, const uint8_t *table, size_t table_len,
+                                   const uint8_t *sentence, size_t sentence_len, uint8_t *out, size_t out_len);
 
 /* Reads a table and answers K * 65,536 + S, its number of states.
 
@@ -332,12 +380,12 @@ static inline const char *nedzsuka_in_words(unsigned refusal)
     static const char *const words[] = {
         "no refusal",
         "the book has a command that is unknown or out of place, too few bytes, or bytes after its end",
-        "the book's number of tags is outside 2 to 48",
-        "a rule's pattern is empty or longer than 6 tags",
+        "the book's number of tags is outside 2 to 48, or above its limit",
+        "a rule's pattern is empty or longer than 6 tags, or than its limit",
         "a tag of the book or the sentence is not below the number of tags",
         "a rule's place is not within its pattern",
         "a rule's new tag is the one it replaces",
-        "the book has more than 16 rules",
+        "the book has more than 16 rules, or more than its limit",
         "the ceiling is outside 1 to 256 states",
         "the work slice is too short",
         "the rules up to this one need more states than the ceiling in every machine",
@@ -347,9 +395,24 @@ static inline const char *nedzsuka_in_words(unsigned refusal)
         "the end tag is no tag of the book, or stands in a pattern before its last place, or a rule changes or makes it",
         "the sentence is closed",
         "the sentence's state is not one of the table's",
+        "a limit is outside its range: 1 to 8 tags in a pattern, 1 to 16 rules, 2 to 48 for the greatest number of tags",
     };
 
     return refusal < sizeof words / sizeof *words ? words[refusal] : "unknown refusal";
+}
+
+/* The entries that nedzsuka_compile_within asks of its work slice: the limits of the call, then a ceiling, the book's K and its number of
+   rules. It is 0 for a limit outside its range, a ceiling outside 1 to 256, K outside 2 to most_tags or more than most_rules rules; the
+   call refuses these whatever its slices are. It is never above NEDZSUKA_WIDEST_WORK. */
+static inline size_t nedzsuka_work_entries_within(uint64_t pattern, uint64_t most_rules, uint64_t most_tags, uint64_t ceiling,
+                                                  uint64_t tags, uint64_t rules)
+{
+    if (pattern < 1 || pattern > NEDZSUKA_WIDEST_PATTERN || most_rules < 1 || most_rules > NEDZSUKA_WIDEST_RULES ||
+        most_tags < NEDZSUKA_LEAST_TAGS || most_tags > NEDZSUKA_WIDEST_TAGS)
+        return 0;
+    if (ceiling < 1 || ceiling > NEDZSUKA_MOST_STATES || tags < NEDZSUKA_LEAST_TAGS || tags > most_tags || rules > most_rules)
+        return 0;
+    return (size_t)(2 * (pattern + 2) * ceiling * (tags + 1) * ((pattern - 1) * rules + 8));
 }
 
 /* The entries, of two bytes each, that compile asks of its work slice for a ceiling, the book's K and its number of rules. K is the
@@ -358,20 +421,26 @@ static inline const char *nedzsuka_in_words(unsigned refusal)
    so that neither the product nor the number of bytes overflows where size_t has 32 bits. */
 static inline size_t nedzsuka_work_entries(uint64_t ceiling, uint64_t tags, uint64_t rules)
 {
-    if (ceiling < 1 || ceiling > NEDZSUKA_MOST_STATES || tags < NEDZSUKA_LEAST_TAGS || tags > NEDZSUKA_MOST_TAGS ||
-        rules > NEDZSUKA_MOST_RULES)
-        return 0;
-    return (size_t)(16 * ceiling * (tags + 1) * (5 * rules + 8));
+    return nedzsuka_work_entries_within(NEDZSUKA_LONGEST_PATTERN, NEDZSUKA_MOST_RULES, NEDZSUKA_MOST_TAGS, ceiling, tags, rules);
 }
 
-/* Bytes that are enough for the table of every book with at most this ceiling of states, this K and at most this many rules: a rule
-   has each state hold at most 5 tags more. The arguments are those of nedzsuka_work_entries; outside the bounds it is 0. As many
-   numbers are enough for the loaded table. */
+/* Bytes that are enough for the table of every book with at most this ceiling of states, this K and at most this many rules, compiled with
+   these limits: a rule has each state hold at most pattern - 1 tags more. The arguments are those of nedzsuka_work_entries_within; where
+   that is 0 so is this. */
+static inline size_t nedzsuka_table_bytes_within(uint64_t pattern, uint64_t most_rules, uint64_t most_tags, uint64_t ceiling,
+                                                 uint64_t tags, uint64_t rules)
+{
+    uint64_t held = (pattern - 1) * rules;
+
+    if (nedzsuka_work_entries_within(pattern, most_rules, most_tags, ceiling, tags, rules) == 0)
+        return 0;
+    return (size_t)(4 + (2 + 5 * tags) + (ceiling - 1) * (2 + 2 * held + tags * (3 + 2 * (held + 1))) + 1);
+}
+
+/* The same for the limits 6, 16 and 48, with the arguments of nedzsuka_work_entries. As many numbers are enough for the loaded table. */
 static inline size_t nedzsuka_table_bytes(uint64_t ceiling, uint64_t tags, uint64_t rules)
 {
-    if (nedzsuka_work_entries(ceiling, tags, rules) == 0)
-        return 0;
-    return (size_t)(4 + (2 + 5 * tags) + (ceiling - 1) * (2 + 10 * rules + tags * (3 + 2 * (5 * rules + 1))) + 1);
+    return nedzsuka_table_bytes_within(NEDZSUKA_LONGEST_PATTERN, NEDZSUKA_MOST_RULES, NEDZSUKA_MOST_TAGS, ceiling, tags, rules);
 }
 
 #ifdef __cplusplus

@@ -1,12 +1,12 @@
 -- The phases one after the other: what stands in the rows after each is what the next one needs.
 use Prim.Native.Nat.{ℕ, _+_, _-_, _*_, _≤_}
 use native.Mathlib.Omega.{arith}
-use native.Mathlib.Nat.{mul-le-mul-left}
 use mathlib.Core.Path.{_≡_, sym, ap, _∙_}
 use mathlib.Core.Logic.{inl, inr}
 use mathlib.Core.List.{List}
 use lib.ListN.{length}
-use Rattle.limits.specs.Limits.{longest-pattern}
+use Rattle.limits.specs.Work.{rule-rows}
+use Rattle.limits.proofs.Work.{composition-fits}
 use Rattle.words.specs.Pieces.{piecewise}
 use Rattle.cascades.specs.Rule.{Rule}
 use Rattle.cascades.specs.Rewrite.{apply}
@@ -29,17 +29,21 @@ use Rattle.normalize.specs.Strip.{Normalized}
 use Rattle.merge.specs.Classes.{Merged}
 use Rattle.number.specs.Order.{Classed}
 use Rattle.number.specs.Numbering.{Rows-notes, Numbered}
-use Rattle.addition.specs.Addition.{rule-rows, Addable, more, Added}
+use Rattle.addition.specs.Addition.{Addable, more, Added}
 
-module _ (g : Grid) (W : List ℕ) (n ceiling end : ℕ) (r : Rule) (ok : Addable g W n ceiling end r) where
+module _ (g : Grid) (W : List ℕ) (n ceiling s end : ℕ) (r : Rule) (ok : Addable g W n ceiling s end r) where
   abbrev k : ℕ
   k = g .tags
 
-  abbrev five : ℕ
-  five = longest-pattern - 1
+  abbrev base : ℕ
+  base = rule-rows s ceiling
+
+  -- the most tags that the rule holds
+  abbrev holds : ℕ
+  holds = ok .longest - 1
 
   abbrev most : ℕ
-  most = ok .most + five
+  most = ok .most + holds
 
   abbrev makes : List ℕ → List ℕ
   makes = λ w. piecewise end (apply r) (ok .makes w)
@@ -52,39 +56,38 @@ module _ (g : Grid) (W : List ℕ) (n ceiling end : ℕ) (r : Rule) (ok : Addabl
         deep = omega (arith, ok .valid .short, ok .deep);
       }
 
-  pub rule-fits : rule-rows ceiling + (length (r .pattern) + 1) ≤ g .rows
-  rule-fits = omega (arith, ok .valid .short, ok .rows, ok .some)
+  pub rule-fits : base + (length (r .pattern) + 1) ≤ g .rows
+  rule-fits = omega (arith, ok .valid .short, ok .states, ok .rows)
 
   -- the rule's table has been written to its rows
-  module _ (X : List ℕ) (m : ℕ) (ruled : Ruled g W X (rule-rows ceiling) m end r) where
+  module _ (X : List ℕ) (m : ℕ) (ruled : Ruled g W X (base) m end r) where
     first-stands : Stands g X 0 n (ok .most) (ok .makes) (λ t. Canonical k (shape t))
     first-stands =
         stands-kept g W 0 n (ok .most) (ok .makes) _ (ok .stands) X _ (ruled .kept) (λ r' c' e' lo hi p. omega (arith, p .0, ok .few, ok .some))
 
-    second-stands : Stands g X (rule-rows ceiling) m five (piecewise end (apply r)) Any
-    second-stands = ruled .stands longest-pattern (ok .valid)
+    second-stands : Stands g X (base) m holds (piecewise end (apply r)) Any
+    second-stands = ruled .stands (ok .longest) (ok .valid)
 
     first-doing : Doing k (ok .most) (ok .makes) (tableAt g X 0 n)
     first-doing = stands-doing g X 0 n _ _ _ first-stands
 
-    second-doing : Doing k five (piecewise end (apply r)) (tableAt g X (rule-rows ceiling) m)
-    second-doing = stands-doing g X (rule-rows ceiling) m _ _ _ second-stands
+    second-doing : Doing k holds (piecewise end (apply r)) (tableAt g X (base) m)
+    second-doing = stands-doing g X (base) m _ _ _ second-stands
 
-    product-fits : ceiling + n * m ≤ rule-rows ceiling
+    product-fits : ceiling + n * m ≤ base
     product-fits =
-        let short : m ≤ longest-pattern + 1 = omega (arith, ok .valid .short, ruled .few) in
-        omega (arith, mul-le-mul-left n short, ok .few)
+        composition-fits s ceiling n m (ok .few) (omega (arith, ok .valid .short, ok .states, ruled .few))
 
-    pub composable : Composable g X 0 n (rule-rows ceiling) m ceiling
+    pub composable : Composable g X 0 n (base) m ceiling
     composable =
         record {
           sized = sized-kept g W X (ok .sized) (ruled .kept .long);
           first-holds = stands-holds g X 0 n _ _ _ first-stands;
-          second-holds = stands-holds g X (rule-rows ceiling) m _ _ _ second-stands;
+          second-holds = stands-holds g X (base) m _ _ _ second-stands;
           first-sound = first-doing .sound;
           second-sound = second-doing .sound;
           first-most = ok .most;
-          second-most = five;
+          second-most = holds;
           first-held = first-doing .held;
           second-held = second-doing .held;
           room = ok .deep;
@@ -94,11 +97,11 @@ module _ (g : Grid) (W : List ℕ) (n ceiling end : ℕ) (r : Rule) (ok : Addabl
         }
 
     -- the composition stands in the rows from the ceiling
-    module _ (Y : List ℕ) (count : ℕ) (composed : Composed g X Y 0 n (rule-rows ceiling) m ceiling count) where
+    module _ (Y : List ℕ) (count : ℕ) (composed : Composed g X Y 0 n (base) m ceiling count) where
       composed-stands : Stands g Y ceiling count most makes Any
-      composed-stands = composed .stands (ok .most) five (ok .makes) (piecewise end (apply r)) first-doing second-doing
+      composed-stands = composed .stands (ok .most) holds (ok .makes) (piecewise end (apply r)) first-doing second-doing
 
-      count-rows : ceiling + count ≤ rule-rows ceiling
+      count-rows : ceiling + count ≤ base
       count-rows = omega (arith, composed .few, product-fits)
 
       sized-2 : Sized g Y
@@ -146,13 +149,13 @@ module _ (g : Grid) (W : List ℕ) (n ceiling end : ℕ) (r : Rule) (ok : Addabl
             last-is : last .table ≡ more g W n end r
             last-is =
                 good-only k most makes (more g W n end r)
-                (good-add k (ok .most) five (ok .makes) (piecewise end (apply r)) (tableAt g W 0 n) (ruleTable k end r) good (doing-rule longest-pattern k end r (ok .valid)))
+                (good-add k (ok .most) holds (ok .makes) (piecewise end (apply r)) (tableAt g W 0 n) (ruleTable k end r) good (doing-rule (ok .longest) k end r (ok .valid)))
                 (last .table) (last .doing .rows) (last .so) (last .doing .does)
 
             all-rows : Kept g W U (In-rows 0 (g .rows))
             all-rows =
                 kept-then g (In-rows 0 (g .rows)) W X U
-                (kept-wider g (In-rows 0 (g .rows)) (In-rows (rule-rows ceiling) (rule-rows ceiling + m)) W X (ruled .kept) (λ r' c' e' p. (omega arith, omega (arith, p .1, rule-fits, ruled .few))))
+                (kept-wider g (In-rows 0 (g .rows)) (In-rows (base) (base + m)) W X (ruled .kept) (λ r' c' e' p. (omega arith, omega (arith, p .1, rule-fits, ruled .few))))
                 (kept-then g (In-rows 0 (g .rows)) X Y U
                 (kept-wider g (In-rows 0 (g .rows)) (In-rows ceiling (ceiling + n * m)) X Y (composed .kept) (λ r' c' e' p. (omega arith, omega (arith, p .1, product-fits, ok .rows, ok .some))))
                 (kept-then g (In-rows 0 (g .rows)) Y Z U

@@ -1,10 +1,10 @@
 -- One more rule: the table in the rows from 0 becomes the one with the rule added, if that has no more states than the ceiling.
-use Prim.Native.Nat.{ℕ, _+_, _-_, _*_, _≤_, _<_}
+use Prim.Native.Nat.{ℕ, _+_, _-_, _≤_, _<_}
 use mathlib.Core.Path.{_≡_}
 use mathlib.Core.Bool.{false}
 use mathlib.Core.List.{List}
 use lib.ListN.{length}
-use Rattle.limits.specs.Limits.{longest-pattern}
+use Rattle.limits.specs.Work.{rule-rows}
 use Rattle.cascades.specs.Rule.{Rule, ValidRule}
 use Rattle.cascades.specs.Ending.{before}
 use Rattle.transducers.specs.Table.{Table, shape}
@@ -16,23 +16,21 @@ use Rattle.workspace.specs.Entries.{FINAL}
 use Rattle.workspace.specs.Cells.{Sized, Kept, In-rows, Fits}
 use Rattle.workspace.specs.Holds.{Holds, Stands, tableAt}
 
--- The rows: the table in those below the ceiling; from there its composition with the rule's transducer, which has at most one state
--- more than a pattern has tags; then the rule's transducer.
-abbrev pub rule-rows : ℕ → ℕ
-rule-rows ceiling = (longest-pattern + 2) * ceiling
-
--- the rows from 0 hold a canonical table, there is room for its composition with the rule, and its states can be noted
-pub record Addable (g : Grid) (W : List ℕ) (n ceiling end : ℕ) (r : Rule) : Type 0 where
+-- the rows from 0 hold a canonical table, there is room for its composition with the rule, whose transducer has at most s states, and these
+-- can be noted
+pub record Addable (g : Grid) (W : List ℕ) (n ceiling s end : ℕ) (r : Rule) : Type 0 where
   pub sized : Sized g W
-  pub rows : rule-rows ceiling + (longest-pattern + 1) ≤ g .rows
+  pub rows : rule-rows s ceiling + s ≤ g .rows
   pub some : 1 ≤ ceiling
-  pub small : rule-rows ceiling < 0x10000
+  pub small : rule-rows s ceiling < 0x10000
   pub few : n ≤ ceiling
   pub most : ℕ
   pub makes : List ℕ → List ℕ
   pub stands : Stands g W 0 n most makes (λ t. Canonical (g .tags) (shape t))
-  pub deep : Fits g FINAL (most + (longest-pattern - 1))
-  pub valid : ValidRule longest-pattern (g .tags) r
+  pub longest : ℕ
+  pub states : longest + 1 ≤ s
+  pub deep : Fits g FINAL (most + (longest - 1))
+  pub valid : ValidRule longest (g .tags) r
   pub free : before end (r .pattern) ≡ false
 
 abbrev pub more : Grid → List ℕ → ℕ → ℕ → Rule → Table

@@ -1,24 +1,23 @@
--- The rules that the reader's arrays hold: the last one, its closing, and what writing a rule or a tag makes of them.
-use Prim.Native.Nat.{ℕ, zero, suc, _+_, _-_, _≤_, _<_}
+-- The rules that the reader's arrays hold: the last one, its closing, and what writing a rule or its tags makes of them.
+use Prim.Native.Nat.{ℕ, zero, suc, _-_, _≤_, _<_}
 use native.Mathlib.Omega.{arith}
-use native.Mathlib.Numerals.{add-one}
 use native.Mathlib.Decide.{ℕ-discrete, decLt}
 use mathlib.Core.Path.{_≡_, refl, sym, ap, _∙_}
-use mathlib.Core.List.{List, [], _∷_, _++_}
+use mathlib.Core.List.{List, [], _∷_}
 use mathlib.Core.Bool.{true}
 use borrow.Author.Tests.{lt-ltb, le-ltb, eq-eqb, ne-eqb}
 use lib.Dec.{ltb}
 use lib.ListN.{length, getD, set, take, replicate, length-set, getD-replicate}
-use lib.Seq.{length-take-le, getD-take, getD-set-same, getD-set-other, take-suc-set, set-out}
+use lib.Seq.{length-take-le, getD-take, getD-set-same, getD-set-other, set-out}
 use Rattle.limits.specs.Limits.{most-rules, longest-pattern}
 use Rattle.cascades.specs.Rule.{Kind}
 use Rattle.books.specs.Book.{opener}
-use Rattle.books.specs.Read.{closing, opened, longer}
+use Rattle.books.specs.Read.{closing, opened}
 use Rattle.books.specs.Arrays.{Arrays, holding, Shaped, placeAt, tagAt, ruleAt, rulesDown}
-use Rattle.books.specs.Resume.{faulted}
+use Rattle.books.specs.Resume.{withTags, faulted}
 use Rattle.books.proofs.Step.{opener-kind}
 
-pub down-last : (a : Arrays) (m : ℕ) → (m ≡ 0 → ⊥) → rulesDown a m ≡ ruleAt a (m - 1) ∷ rulesDown a (m - 1)
+down-last : (a : Arrays) (m : ℕ) → (m ≡ 0 → ⊥) → rulesDown a m ≡ ruleAt a (m - 1) ∷ rulesDown a (m - 1)
 down-last a zero n = absurd (n refl)
 down-last a (suc m) n = let e : suc m - 1 ≡ m = omega arith in rw e
 
@@ -72,7 +71,7 @@ module _ (a : Arrays) (h : Shaped a) (m : ℕ) (few : m ≤ most-rules) (some : 
             ne-eqb (getD (ruleAt a (m - 1) .pattern) (placeAt a (m - 1)) 0) (tagAt a (m - 1)) (λ e. d (sym there ∙ e)),
           )
 
--- ---- one more tag of the last pattern, one more rule
+-- ---- a pattern for the last rule, one more rule
 
 pub down-length : (a : Arrays) (m : ℕ) → length (rulesDown a m) ≡ m
 down-length a zero = refl
@@ -82,10 +81,9 @@ down-same : (a a' : Arrays) (m : ℕ) → ((i : ℕ) → i < m → ruleAt a' i �
 down-same a a' zero h = refl
 down-same a a' (suc m) h = cc (h m (omega arith), down-same a a' m (λ i l. h i (omega arith)))
 
--- the arrays after the tag t has been put after the pattern of the rule i
-abbrev pub tagged-arrays : Arrays → ℕ → ℕ → Arrays
-tagged-arrays a i t =
-    holding (set (a .rows) i (set (getD (a .rows) i []) (getD (a .lengths) i 0) t)) (set (a .lengths) i (getD (a .lengths) i 0 + 1)) (a .heads)
+-- the arrays after the rule i has got the first n tags of the row as its pattern
+abbrev pub tagged-arrays : Arrays → ℕ → List ℕ → ℕ → Arrays
+tagged-arrays a i row n = holding (set (a .rows) i row) (set (a .lengths) i n) (a .heads)
 
 -- the arrays after a rule with no pattern yet, opened by the command c, has been put at m
 abbrev pub opened-arrays : Arrays → ℕ → ℕ → ℕ → ℕ → Arrays
@@ -107,43 +105,44 @@ set-long-rows l i n v k hi hv h j hj = at (ℕ-discrete j i)
     at (yes e) = rw (e, getD-set-same l i v [] hi) hv
     at (no d) = rw (getD-set-other l i j v [] d) (h j hj)
 
-module _ (a : Arrays) (h : Shaped a) (i : ℕ) (few : i < most-rules) (t : ℕ) (room : getD (a .lengths) i 0 < longest-pattern) where
-  pub tagged-shaped : Shaped (tagged-arrays a i t)
-  tagged-shaped =
-      let row = getD (a .rows) i [] in
-      let n = getD (a .lengths) i 0 in
+module _ (a : Arrays) (h : Shaped a) (i : ℕ) (few : i < most-rules) (row : List ℕ) (long : length row ≡ longest-pattern) where
+  pub row-shaped : Shaped (holding (set (a .rows) i row) (a .lengths) (a .heads))
+  row-shaped =
       record {
-        rows-long = length-set (a .rows) i (set row n t) ∙ h .rows-long;
-        row-long =
-            set-long-rows (a .rows) i most-rules (set row n t) longest-pattern
-            (omega (arith, h .rows-long)) (length-set row n t ∙ h .row-long i few) (h .row-long);
-        lengths-long = length-set (a .lengths) i (n + 1) ∙ h .lengths-long;
-        length-short = set-short (a .lengths) i (n + 1) longest-pattern (omega arith) (h .length-short);
+        rows-long = length-set (a .rows) i row ∙ h .rows-long;
+        row-long = set-long-rows (a .rows) i most-rules row longest-pattern (omega (arith, h .rows-long)) long (h .row-long);
+        lengths-long = h .lengths-long;
+        length-short = h .length-short;
         heads-long = h .heads-long;
         head-long = h .head-long;
       }
 
-  tagged-rule : ruleAt (tagged-arrays a i t) i ≡ longer (ruleAt a i) t
-  tagged-rule =
-      let row = getD (a .rows) i [] in
-      let n = getD (a .lengths) i 0 in
-      let e : getD (set (a .lengths) i (n + 1)) i 0 ≡ n + 1 = getD-set-same (a .lengths) i (n + 1) 0 (omega (arith, h .lengths-long)) in
-      let f : getD (set (a .rows) i (set row n t)) i [] ≡ set row n t = getD-set-same (a .rows) i (set row n t) [] (omega (arith, h .rows-long)) in
-      let g : take (suc n) (set row n t) ≡ take n row ++ (t ∷ []) = take-suc-set row n t (omega (arith, h .row-long i few)) in
-      cc (e, f, g, add-one n)
+  pub tagged-shaped : (n : ℕ) → n ≤ longest-pattern → Shaped (tagged-arrays a i row n)
+  tagged-shaped n short =
+      record {
+        rows-long = row-shaped .rows-long;
+        row-long = row-shaped .row-long;
+        lengths-long = length-set (a .lengths) i n ∙ h .lengths-long;
+        length-short = set-short (a .lengths) i n longest-pattern short (h .length-short);
+        heads-long = h .heads-long;
+        head-long = h .head-long;
+      }
 
-  pub tagged-down : rulesDown (tagged-arrays a i t) (suc i) ≡ longer (ruleAt a i) t ∷ rulesDown a i
-  tagged-down =
-      let row = getD (a .rows) i [] in
-      let n = getD (a .lengths) i 0 in
+  pub tagged-down : (n : ℕ) → rulesDown (tagged-arrays a i row n) (suc i) ≡ withTags (ruleAt a i) (take n row) ∷ rulesDown a i
+  tagged-down n =
       cc (
-        tagged-rule,
-        down-same a (tagged-arrays a i t) i
+        getD-set-same (a .lengths) i n 0 (omega (arith, h .lengths-long)),
+        getD-set-same (a .rows) i row [] (omega (arith, h .rows-long)),
+        down-same a (tagged-arrays a i row n) i
             (λ j l. cc (
-              getD-set-other (a .lengths) i j (n + 1) 0 (λ e. omega arith),
-              getD-set-other (a .rows) i j (set row n t) [] (λ e. omega arith),
+              getD-set-other (a .lengths) i j n 0 (λ e. omega arith),
+              getD-set-other (a .rows) i j row [] (λ e. omega arith),
             )),
       )
+
+-- a rule with no tag yet
+pub untagged-down : (a : Arrays) (i : ℕ) → getD (a .lengths) i 0 ≡ 0 → rulesDown a (suc i) ≡ withTags (ruleAt a i) [] ∷ rulesDown a i
+untagged-down a i e = cc
 
 module _ (a : Arrays) (h : Shaped a) (m : ℕ) (few : m < most-rules) (p t c : ℕ) where
   pub opened-shaped : Shaped (opened-arrays a m p t c)
@@ -157,10 +156,13 @@ module _ (a : Arrays) (h : Shaped a) (m : ℕ) (few : m < most-rules) (p t c : �
         head-long = set-long-rows (a .heads) m most-rules (p ∷ t ∷ c ∷ []) 3 (omega (arith, h .heads-long)) refl (h .head-long);
       }
 
+  pub opened-empty : getD (opened-arrays a m p t c .lengths) m 0 ≡ 0
+  opened-empty = getD-set-same (a .lengths) m 0 0 (omega (arith, h .lengths-long))
+
   pub opened-down : (kind : Kind) → c ≡ opener kind → rulesDown (opened-arrays a m p t c) (suc m) ≡ opened kind p t ∷ rulesDown a m
   opened-down kind is =
       cc (
-        getD-set-same (a .lengths) m 0 0 (omega (arith, h .lengths-long)),
+        opened-empty,
         getD-set-same (a .heads) m (p ∷ t ∷ c ∷ []) [] (omega (arith, h .heads-long)),
         opener-kind kind,
         down-same a (opened-arrays a m p t c) m

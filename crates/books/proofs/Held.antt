@@ -5,7 +5,8 @@ use native.Mathlib.Omega.{arith}
 use mathlib.Core.Path.{_≡_, _∙_, subst}
 use mathlib.Core.List.{List, reverse-reverse}
 use lib.ListN.{length, length-reverse}
-use Rattle.limits.specs.Limits.{longest-pattern}
+use Rattle.limits.specs.Limits.{InRange}
+use Rattle.limits.specs.declared.Limits.{Limits}
 use Rattle.answers.specs.Outcome.{result}
 use Rattle.answers.specs.Answer.{refusal}
 use Rattle.answers.specs.declared.Refusal.{Refusal}
@@ -28,21 +29,21 @@ down-valid l k a (suc m) h i n = at (ℕ-discrete i m) (down-valid l k a m (h .1
 pub rules-long : (a : Arrays) (m : ℕ) → length (rulesOf a m) ≡ m
 rules-long a m = length-reverse (rulesDown a m) ∙ down-length a m
 
-module _ (bytes : List ℕ) (a : Arrays) (r : BookAnswer) (w : Whole bytes a r) where
-  pub was-refused : (x : Refusal) → r ≡ Refused x → read bytes ≡ refusal x
+module _ {lim : Limits} (bytes : List ℕ) (a : Arrays) (r : BookAnswer) (w : Whole lim bytes a r) where
+  pub was-refused : (x : Refusal) → r ≡ Refused x → read lim bytes ≡ refusal x
   was-refused x f = cc (w .outcome)
 
   module _ (k m : ℕ) (f : r ≡ Book k m) where
-    pub was-read : read bytes ≡ result (cascadeOf k a m)
+    pub was-read : read lim bytes ≡ result (cascadeOf k a m)
     was-read = cc (w .outcome)
 
-    pub rules-held : RulesHeld k m a
-    rules-held =
+    pub rules-held : InRange lim → RulesHeld (lim .pattern) k m a
+    rules-held ranged =
         let v = reads-exactly bytes (cascadeOf k a m) .0 was-read .0 in
         record {
           shaped = w .shaped;
-          few = omega (arith, v .few-rules, rules-long a m);
+          few = omega (arith, v .few-rules, rules-long a m, ranged .few-rules);
           valid =
-              down-valid longest-pattern k a m
-              (subst (ValidRules longest-pattern k) (reverse-reverse (rulesDown a m)) (valid-reverse longest-pattern k (rulesOf a m) (v .rules-valid)));
+              down-valid (lim .pattern) k a m
+              (subst (ValidRules (lim .pattern) k) (reverse-reverse (rulesDown a m)) (valid-reverse (lim .pattern) k (rulesOf a m) (v .rules-valid)));
         }

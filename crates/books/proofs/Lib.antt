@@ -2,6 +2,7 @@
 pub mod Step
 pub mod Encode
 pub mod Ending
+pub mod Wider
 pub mod Refusal
 pub mod Arrays
 pub mod Commands

@@ -1,4 +1,4 @@
--- What a book's refusal is: a number from 1 to 7, naming a byte that no valid book's end lies before.
+-- What a book's refusal is: a number from 1 to 7, naming a byte: with limits in their ranges, one that no valid book's end lies before.
 use Prim.Native.Nat.{ℕ, suc, _+_, _*_, _≤_, _<_}
 use native.Mathlib.Omega.{arith}
 use mathlib.Core.Path.{_≡_, refl}
@@ -7,7 +7,8 @@ use mathlib.Core.List.{List, [], _∷_}
 use borrow.Author.Tests.{leb-true}
 use lib.Dec.{eqb, leb, ltb}
 use lib.ListN.{length, getD, length-append}
-use Rattle.limits.specs.Limits.{fewest-tags, most-tags, most-rules, longest-pattern}
+use Rattle.limits.specs.Limits.{fewest-tags, most-rules, longest-pattern, InRange}
+use Rattle.limits.specs.declared.Limits.{Limits}
 use Rattle.answers.specs.Outcome.{Outcome, result, refused, nothing, byte, rule, andThen, provided}
 use Rattle.cascades.specs.Rule.{Kind, Rule, Cascade}
 use Rattle.books.specs.Read.{Stage, opening, size, command, place, new-tag, pattern-tag, ended, closing, nextTag, nextRule, commandStep, opened, longer, step, readFrom, read}
@@ -20,11 +21,11 @@ rule-bytes = 3 + 2 * longest-pattern
 abbrev pub longest-book : ℕ
 longest-book = 2 + most-rules * rule-bytes + 1
 
-abbrev pub BookRefusal : Outcome Cascade → Type 0
-BookRefusal (result c) = Unit {0}
-BookRefusal (refused n nothing) = ⊥
-BookRefusal (refused n (byte b)) = (1 ≤ n) × (n ≤ 7) × (b ≤ longest-book)
-BookRefusal (refused n (rule i)) = ⊥
+abbrev pub BookRefusal : Limits → Outcome Cascade → Type 0
+BookRefusal lim (result c) = Unit {0}
+BookRefusal lim (refused n nothing) = ⊥
+BookRefusal lim (refused n (byte b)) = (1 ≤ n) × (n ≤ 7) × (InRange lim → b ≤ longest-book)
+BookRefusal lim (refused n (rule i)) = ⊥
 
 -- a step's refusal is one of them
 abbrev Small : {A : Type 0} → Outcome A → Type 0
@@ -48,28 +49,29 @@ small-closing (r ∷ rs) =
     (omega arith)
     (omega arith)
 
-small-tag : (k : ℕ) (rs : List Rule) → Small (nextTag k rs)
-small-tag k [] = (omega arith, omega arith)
-small-tag k (r ∷ rs) = small-provided 3 (ltb (length (r .pattern)) longest-pattern) (result (pattern-tag k r rs)) tt (omega arith) (omega arith)
+module _ (lim : Limits) where
+  small-tag : (k : ℕ) (rs : List Rule) → Small (nextTag lim k rs)
+  small-tag k [] = (omega arith, omega arith)
+  small-tag k (r ∷ rs) = small-provided 3 (ltb (length (r .pattern)) (lim .pattern)) (result (pattern-tag k r rs)) tt (omega arith) (omega arith)
 
-small-rule : (k : ℕ) (kind : Kind) (rs : List Rule) → Small (nextRule k kind rs)
-small-rule k kind rs =
-    small-then (closing rs) (λ u. provided 7 (ltb (length rs) most-rules) (result (place k kind rs))) (small-closing rs)
-    (λ u. small-provided 7 (ltb (length rs) most-rules) (result (place k kind rs)) tt (omega arith) (omega arith))
+  small-rule : (k : ℕ) (kind : Kind) (rs : List Rule) → Small (nextRule lim k kind rs)
+  small-rule k kind rs =
+      small-then (closing rs) (λ u. provided 7 (ltb (length rs) (lim .rules)) (result (place k kind rs))) (small-closing rs)
+      (λ u. small-provided 7 (ltb (length rs) (lim .rules)) (result (place k kind rs)) tt (omega arith) (omega arith))
 
-small-command : (k : ℕ) (rs : List Rule) (b : ℕ) → Small (commandStep k rs b)
-small-command k rs b =
-    by-command Small k rs b (λ e. small-then (closing rs) (λ u. result (ended k rs)) (small-closing rs) (λ u. tt)) (λ kind e. small-rule k kind rs)
-    (λ e. small-tag k rs) (omega arith, omega arith)
+  small-command : (k : ℕ) (rs : List Rule) (b : ℕ) → Small (commandStep lim k rs b)
+  small-command k rs b =
+      by-command lim Small k rs b (λ e. small-then (closing rs) (λ u. result (ended k rs)) (small-closing rs) (λ u. tt)) (λ kind e. small-rule k kind rs)
+      (λ e. small-tag k rs) (omega arith, omega arith)
 
-small-step : (s : Stage) (b : ℕ) → Small (step s b)
-small-step opening b = small-provided 1 (eqb b 0x20) (result size) tt (omega arith) (omega arith)
-small-step size b = small-provided 2 (leb fewest-tags b && leb b most-tags) (result (command b [])) tt (omega arith) (omega arith)
-small-step (command k rs) b = small-command k rs b
-small-step (place k kind rs) b = tt
-small-step (new-tag k kind rs p) b = small-provided 4 (ltb b k) (result (command k (opened kind p b ∷ rs))) tt (omega arith) (omega arith)
-small-step (pattern-tag k r rs) b = small-provided 4 (ltb b k) (result (command k (longer r b ∷ rs))) tt (omega arith) (omega arith)
-small-step (ended k rs) b = (omega arith, omega arith)
+  small-step : (s : Stage) (b : ℕ) → Small (step lim s b)
+  small-step opening b = small-provided 1 (eqb b 0x20) (result size) tt (omega arith) (omega arith)
+  small-step size b = small-provided 2 (leb fewest-tags b && leb b (lim .tags)) (result (command b [])) tt (omega arith) (omega arith)
+  small-step (command k rs) b = small-command k rs b
+  small-step (place k kind rs) b = tt
+  small-step (new-tag k kind rs p) b = small-provided 4 (ltb b k) (result (command k (opened kind p b ∷ rs))) tt (omega arith) (omega arith)
+  small-step (pattern-tag k r rs) b = small-provided 4 (ltb b k) (result (command k (longer r b ∷ rs))) tt (omega arith) (omega arith)
+  small-step (ended k rs) b = (omega arith, omega arith)
 
 -- where the byte `at` is next: the rules before the last one have at most so many bytes each
 abbrev Reached : Stage → ℕ → Type 0
@@ -104,57 +106,58 @@ reached-few (new-tag k kind rs p) at h = omega (arith, h .0, h .1)
 reached-few (pattern-tag k r rs) at h = omega (arith, h .0, h .1, h .2)
 reached-few (ended k rs) at h = h
 
-module _ (k at : ℕ) where
-  reached-end : (rs : List Rule) → Reached (command k rs) at → suc at ≤ longest-book
-  reached-end [] h = omega arith
-  reached-end (r ∷ rs) h = omega (arith, h .0, h .1, h .2)
+module _ (lim : Limits) (ranged : InRange lim) where
+  module _ (k at : ℕ) where
+    reached-end : (rs : List Rule) → Reached (command k rs) at → suc at ≤ longest-book
+    reached-end [] h = omega arith
+    reached-end (r ∷ rs) h = omega (arith, h .0, h .1, h .2)
 
-  reached-place : (kind : Kind) (rs : List Rule) → Reached (command k rs) at → length rs < most-rules → Reached (place k kind rs) (suc at)
-  reached-place kind [] h l = (l, omega arith)
-  reached-place kind (r ∷ rs) h l = (l, omega (arith, h .1, h .2))
+    reached-place : (kind : Kind) (rs : List Rule) → Reached (command k rs) at → length rs < most-rules → Reached (place k kind rs) (suc at)
+    reached-place kind [] h l = (l, omega arith)
+    reached-place kind (r ∷ rs) h l = (l, omega (arith, h .1, h .2))
 
-  reached-tag : (rs : List Rule) → Reached (command k rs) at → ReachedBy (nextTag k rs) (suc at)
-  reached-tag [] h = tt
-  reached-tag (r ∷ rs) h =
-      reached-provided 3 (ltb (length (r .pattern)) longest-pattern) (result (pattern-tag k r rs)) (suc at)
-      (λ e. (h .0, leb-true (suc (length (r .pattern))) longest-pattern e, omega (arith, h .2)))
+    reached-tag : (rs : List Rule) → Reached (command k rs) at → ReachedBy (nextTag lim k rs) (suc at)
+    reached-tag [] h = tt
+    reached-tag (r ∷ rs) h =
+        reached-provided 3 (ltb (length (r .pattern)) (lim .pattern)) (result (pattern-tag k r rs)) (suc at)
+        (λ e. (h .0, omega (arith, leb-true (suc (length (r .pattern))) (lim .pattern) e, ranged .short-pattern), omega (arith, h .2)))
 
-  reached-command : (rs : List Rule) (b : ℕ) → Reached (command k rs) at → ReachedBy (commandStep k rs b) (suc at)
-  reached-command rs b h =
-      by-command (λ o. ReachedBy o (suc at)) k rs b
-      (λ e. reached-then (closing rs) (λ u. result (ended k rs)) (suc at) (λ u. reached-end rs h))
-      (λ kind e. reached-then (closing rs) (λ u. provided 7 (ltb (length rs) most-rules) (result (place k kind rs))) (suc at)
-      (λ u. reached-provided 7 (ltb (length rs) most-rules) (result (place k kind rs)) (suc at)
-      (λ l. reached-place kind rs h (leb-true (suc (length rs)) most-rules l))))
-      (λ e. reached-tag rs h)
-      tt
+    reached-command : (rs : List Rule) (b : ℕ) → Reached (command k rs) at → ReachedBy (commandStep lim k rs b) (suc at)
+    reached-command rs b h =
+        by-command lim (λ o. ReachedBy o (suc at)) k rs b
+        (λ e. reached-then (closing rs) (λ u. result (ended k rs)) (suc at) (λ u. reached-end rs h))
+        (λ kind e. reached-then (closing rs) (λ u. provided 7 (ltb (length rs) (lim .rules)) (result (place k kind rs))) (suc at)
+        (λ u. reached-provided 7 (ltb (length rs) (lim .rules)) (result (place k kind rs)) (suc at)
+        (λ l. reached-place kind rs h (omega (arith, leb-true (suc (length rs)) (lim .rules) l, ranged .few-rules)))))
+        (λ e. reached-tag rs h)
+        tt
 
-reached-step : (s : Stage) (b at : ℕ) → Reached s at → ReachedBy (step s b) (suc at)
-reached-step opening b at h = reached-provided 1 (eqb b 0x20) (result size) (suc at) (λ e. omega arith)
-reached-step size b at h = reached-provided 2 (leb fewest-tags b && leb b most-tags) (result (command b [])) (suc at) (λ e. omega arith)
-reached-step (command k rs) b at h = reached-command k at rs b h
-reached-step (place k kind rs) b at h = (h .0, omega (arith, h .1))
-reached-step (new-tag k kind rs p) b at h =
-    reached-provided 4 (ltb b k) (result (command k (opened kind p b ∷ rs))) (suc at) (λ e. (h .0, omega arith, omega (arith, h .1)))
-reached-step (pattern-tag k r rs) b at h =
-    let n = length-append (r .pattern) (b ∷ []) in
-    reached-provided 4 (ltb b k) (result (command k (longer r b ∷ rs))) (suc at) (λ e. (h .0, omega (arith, h .1, n), omega (arith, h .2, n)))
-reached-step (ended k rs) b at h = tt
+  reached-step : (s : Stage) (b at : ℕ) → Reached s at → ReachedBy (step lim s b) (suc at)
+  reached-step opening b at h = reached-provided 1 (eqb b 0x20) (result size) (suc at) (λ e. omega arith)
+  reached-step size b at h = reached-provided 2 (leb fewest-tags b && leb b (lim .tags)) (result (command b [])) (suc at) (λ e. omega arith)
+  reached-step (command k rs) b at h = reached-command k at rs b h
+  reached-step (place k kind rs) b at h = (h .0, omega (arith, h .1))
+  reached-step (new-tag k kind rs p) b at h =
+      reached-provided 4 (ltb b k) (result (command k (opened kind p b ∷ rs))) (suc at) (λ e. (h .0, omega arith, omega (arith, h .1)))
+  reached-step (pattern-tag k r rs) b at h =
+      let n = length-append (r .pattern) (b ∷ []) in
+      reached-provided 4 (ltb b k) (result (command k (longer r b ∷ rs))) (suc at) (λ e. (h .0, omega (arith, h .1, n), omega (arith, h .2, n)))
+  reached-step (ended k rs) b at h = tt
 
-refusal-from : (s : Stage) (at : ℕ) (bs : List ℕ) → Reached s at → BookRefusal (readFrom s at bs)
-refusal-from opening at [] h = (omega arith, omega arith, reached-few opening at h)
-refusal-from size at [] h = (omega arith, omega arith, reached-few size at h)
-refusal-from (command k rs) at [] h = (omega arith, omega arith, reached-few (command k rs) at h)
-refusal-from (place k kind rs) at [] h = (omega arith, omega arith, reached-few (place k kind rs) at h)
-refusal-from (new-tag k kind rs p) at [] h = (omega arith, omega arith, reached-few (new-tag k kind rs p) at h)
-refusal-from (pattern-tag k r rs) at [] h = (omega arith, omega arith, reached-few (pattern-tag k r rs) at h)
-refusal-from (ended k rs) at [] h = tt
-refusal-from s at (b ∷ bs) h = by (step s b) (small-step s b) (reached-step s b at h) (λ s' f. refusal-from s' (suc at) bs f)
+refusal-from : (lim : Limits) (s : Stage) (at : ℕ) (bs : List ℕ) → (InRange lim → Reached s at) → BookRefusal lim (readFrom lim s at bs)
+refusal-from lim opening at [] h = (omega arith, omega arith, λ ranged. reached-few opening at (h ranged))
+refusal-from lim size at [] h = (omega arith, omega arith, λ ranged. reached-few size at (h ranged))
+refusal-from lim (command k rs) at [] h = (omega arith, omega arith, λ ranged. reached-few (command k rs) at (h ranged))
+refusal-from lim (place k kind rs) at [] h = (omega arith, omega arith, λ ranged. reached-few (place k kind rs) at (h ranged))
+refusal-from lim (new-tag k kind rs p) at [] h = (omega arith, omega arith, λ ranged. reached-few (new-tag k kind rs p) at (h ranged))
+refusal-from lim (pattern-tag k r rs) at [] h = (omega arith, omega arith, λ ranged. reached-few (pattern-tag k r rs) at (h ranged))
+refusal-from lim (ended k rs) at [] h = tt
+refusal-from lim s at (b ∷ bs) h = by (step lim s b) (small-step lim s b) (λ ranged. reached-step lim ranged s b at (h ranged)) (λ s' f. refusal-from lim s' (suc at) bs f)
   where
-    by : (o : Outcome Stage) → Small o → ReachedBy o (suc at) → ((s' : Stage) → Reached s' (suc at) → BookRefusal (readFrom s' (suc at) bs))
-        → BookRefusal (elim o as (λ x. Outcome Cascade) [ result s' ↦ readFrom s' (suc at) bs | refused m p ↦ refused m (byte at) ])
+    by : (o : Outcome Stage) → Small o → (InRange lim → ReachedBy o (suc at)) → ((s' : Stage) → (InRange lim → Reached s' (suc at)) → BookRefusal lim (readFrom lim s' (suc at) bs))
+        → BookRefusal lim (elim o as (λ x. Outcome Cascade) [ result s' ↦ readFrom lim s' (suc at) bs | refused m p ↦ refused m (byte at) ])
     by (result s') z f g = g s' f
-    by (refused m p) z f g = (z .0, z .1, reached-few s at h)
+    by (refused m p) z f g = (z .0, z .1, λ ranged. reached-few s at (h ranged))
 
-pub book-refusal : (bytes : List ℕ) → BookRefusal (read bytes)
-book-refusal bytes = refusal-from opening 0 bytes refl
+pub book-refusal : (lim : Limits) (bytes : List ℕ) → BookRefusal lim (read lim bytes)
+book-refusal lim bytes = refusal-from lim opening 0 bytes (λ ranged. refl)

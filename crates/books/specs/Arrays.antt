@@ -1,4 +1,5 @@
--- "Reading keeps the patterns as an array of sixteen rows of six tags, with each length beside": the rules that the reader's arrays hold.
+-- "Reading keeps the patterns as an array of sixteen rows of six tags, with each length beside" (document 01), and "The rows that keep the
+-- patterns hold eight tags from now on" (document 02, W8): the rules that the reader's arrays hold.
 -- What else a rule has stands in a third array, its head: the place, the new tag and the command that opened it.
 use Prim.Native.Nat.{ℕ, zero, suc, _≤_, _<_}
 use mathlib.Core.Path.{_≡_}
@@ -55,8 +56,8 @@ rulesOf a n = reverse (rulesDown a n)
 abbrev pub cascadeOf : ℕ → Arrays → ℕ → Cascade
 cascadeOf k a n = record { tags = k; rules = rulesOf a n; end = no-end }
 
--- the arrays hold m rules that are valid over k tags
-pub record RulesHeld (k m : ℕ) (a : Arrays) : Type 0 where
+-- the arrays hold m rules that are valid over k tags, with at most l of them in a pattern
+pub record RulesHeld (l k m : ℕ) (a : Arrays) : Type 0 where
   pub shaped : Shaped a
   pub few : m ≤ most-rules
-  pub valid : (i : ℕ) → i < m → ValidRule longest-pattern k (ruleAt a i)
+  pub valid : (i : ℕ) → i < m → ValidRule l k (ruleAt a i)

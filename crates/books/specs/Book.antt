@@ -3,15 +3,16 @@ use Prim.Native.Nat.{ℕ, _≤_}
 use mathlib.Core.Path.{_≡_}
 use mathlib.Core.List.{List, [], _∷_, _++_}
 use lib.ListN.{length}
-use Rattle.limits.specs.Limits.{fewest-tags, most-tags, most-rules, longest-pattern, no-end}
+use Rattle.limits.specs.Limits.{fewest-tags, no-end}
+use Rattle.limits.specs.declared.Limits.{Limits}
 use Rattle.cascades.specs.Rule.{Kind, once, everywhere, Rule, Cascade, ValidCascade}
 
--- "K 2 to 48; at most 16 rules", each with "a pattern u of 1 to 6 tags"
-pub record Valid (b : Cascade) : Type 0 where
+-- "K 2 to 48; at most 16 rules", each with "a pattern u of 1 to 6 tags": in place of 48, 16 and 6 the limits of the call (document 02, W8)
+pub record Valid (lim : Limits) (b : Cascade) : Type 0 where
   pub enough-tags : fewest-tags ≤ b .tags
-  pub few-tags : b .tags ≤ most-tags
-  pub few-rules : length (b .rules) ≤ most-rules
-  pub rules-valid : ValidCascade longest-pattern b
+  pub few-tags : b .tags ≤ lim .tags
+  pub few-rules : length (b .rules) ≤ lim .rules
+  pub rules-valid : ValidCascade (lim .pattern) b
   -- a book's bytes have no end tag: a call names it
   pub no-end-tag : b .end ≡ no-end
 

@@ -1,11 +1,13 @@
 -- What reading a list of bytes as a book gives: the cascade, or the refusal at the earliest byte. Byte by byte, so that no later byte
--- can decide. The theorem in proofs/Encode.antt says that exactly the encodings of valid cascades are read.
+-- can decide. "Refusals 2, 3, 7 and 12 use the record's limits" (document 02, W8). The theorem in proofs/Encode.antt says that exactly the
+-- encodings of valid cascades are read.
 use Prim.Native.Nat.{ℕ, suc}
 use mathlib.Core.Bool.{true, false, not, _&&_}
 use mathlib.Core.List.{List, [], _∷_, _++_, reverse}
 use lib.Dec.{eqb, leb, ltb}
 use lib.ListN.{length, getD}
-use Rattle.limits.specs.Limits.{fewest-tags, most-tags, most-rules, longest-pattern, no-end}
+use Rattle.limits.specs.Limits.{fewest-tags, no-end}
+use Rattle.limits.specs.declared.Limits.{Limits}
 use Rattle.answers.specs.Outcome.{Outcome, result, refused, nothing, byte, andThen, provided}
 use Rattle.cascades.specs.Rule.{Kind, once, everywhere, Rule, Cascade}
 
@@ -29,27 +31,27 @@ abbrev pub closing : List Rule → Outcome (Unit {0})
 closing [] = result tt
 closing (r ∷ rs) = closed r
 
--- 22: out of place if no rule is open; a seventh is 3
-abbrev pub nextTag : ℕ → List Rule → Outcome Stage
-nextTag k [] = refused 1 nothing
-nextTag k (r ∷ rs) = provided 3 (ltb (length (r .pattern)) longest-pattern) (result (pattern-tag k r rs))
+-- 22: out of place if no rule is open; one more tag than a pattern may have is 3
+abbrev pub nextTag : Limits → ℕ → List Rule → Outcome Stage
+nextTag lim k [] = refused 1 nothing
+nextTag lim k (r ∷ rs) = provided 3 (ltb (length (r .pattern)) (lim .pattern)) (result (pattern-tag k r rs))
 
 -- 21 and 24: "24 closes a rule as 21 does", "all before 7"; "A seventeenth rule is refused whichever command opens it"
-abbrev pub nextRule : ℕ → Kind → List Rule → Outcome Stage
-nextRule k kind rs = andThen (closing rs) (λ x. provided 7 (ltb (length rs) most-rules) (result (place k kind rs)))
+abbrev pub nextRule : Limits → ℕ → Kind → List Rule → Outcome Stage
+nextRule lim k kind rs = andThen (closing rs) (λ x. provided 7 (ltb (length rs) (lim .rules)) (result (place k kind rs)))
 
 -- "command unknown or out of place" is 1
-abbrev pub commandStep : ℕ → List Rule → ℕ → Outcome Stage
-commandStep k rs b =
+abbrev pub commandStep : Limits → ℕ → List Rule → ℕ → Outcome Stage
+commandStep lim k rs b =
     elim (eqb b 0x00) [
       | true ↦ andThen (closing rs) (λ x. result (ended k rs))
       | false ↦
           elim (eqb b 0x21) [
-            | true ↦ nextRule k once rs
+            | true ↦ nextRule lim k once rs
             | false ↦
                 elim (eqb b 0x24) [
-                  | true ↦ nextRule k everywhere rs
-                  | false ↦ elim (eqb b 0x22) [ true ↦ nextTag k rs | false ↦ refused 1 nothing ]
+                  | true ↦ nextRule lim k everywhere rs
+                  | false ↦ elim (eqb b 0x22) [ true ↦ nextTag lim k rs | false ↦ refused 1 nothing ]
                 ]
           ]
     ]
@@ -64,15 +66,15 @@ opened kind p t = record { kind = kind; pattern = []; place = p; tag = t }
 abbrev pub longer : Rule → ℕ → Rule
 longer r a = record { kind = r .kind; pattern = r .pattern ++ (a ∷ []); place = r .place; tag = r .tag }
 
--- the stage after a byte, or the number of the refusal: K outside 2 to 48 is 2; a byte after 00 is 1
-abbrev pub step : Stage → ℕ → Outcome Stage
-step opening b = provided 1 (eqb b 0x20) (result size)
-step size b = provided 2 (leb fewest-tags b && leb b most-tags) (result (command b []))
-step (command k rs) b = commandStep k rs b
-step (place k kind rs) b = result (new-tag k kind rs b)
-step (new-tag k kind rs p) b = below k b (command k (opened kind p b ∷ rs))
-step (pattern-tag k r rs) b = below k b (command k (longer r b ∷ rs))
-step (ended k rs) b = refused 1 nothing
+-- the stage after a byte, or the number of the refusal: K below 2 or above its limit is 2; a byte after 00 is 1
+abbrev pub step : Limits → Stage → ℕ → Outcome Stage
+step lim opening b = provided 1 (eqb b 0x20) (result size)
+step lim size b = provided 2 (leb fewest-tags b && leb b (lim .tags)) (result (command b []))
+step lim (command k rs) b = commandStep lim k rs b
+step lim (place k kind rs) b = result (new-tag k kind rs b)
+step lim (new-tag k kind rs p) b = below k b (command k (opened kind p b ∷ rs))
+step lim (pattern-tag k r rs) b = below k b (command k (longer r b ∷ rs))
+step lim (ended k rs) b = refused 1 nothing
 
 -- "bytes missing" is 1; "The end of the bytes counts as a place after the last"
 abbrev pub finish : Stage → ℕ → Outcome Cascade
@@ -85,9 +87,9 @@ finish (pattern-tag k r rs) at = refused 1 (byte at)
 finish (ended k rs) at = result (record { tags = k; rules = reverse rs; end = no-end })
 
 -- "In a book the refusal at the earliest byte is given", and names it
-abbrev pub readFrom : Stage → ℕ → List ℕ → Outcome Cascade
-readFrom s at [] = finish s at
-readFrom s at (b ∷ bs) = elim (step s b) [ result s' ↦ readFrom s' (suc at) bs | refused n p ↦ refused n (byte at) ]
+abbrev pub readFrom : Limits → Stage → ℕ → List ℕ → Outcome Cascade
+readFrom lim s at [] = finish s at
+readFrom lim s at (b ∷ bs) = elim (step lim s b) [ result s' ↦ readFrom lim s' (suc at) bs | refused n p ↦ refused n (byte at) ]
 
-abbrev pub read : List ℕ → Outcome Cascade
-read bytes = readFrom opening 0 bytes
+abbrev pub read : Limits → List ℕ → Outcome Cascade
+read lim bytes = readFrom lim opening 0 bytes

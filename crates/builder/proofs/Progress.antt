@@ -1,13 +1,16 @@
 -- Compiling rule by rule: where it begins, goes on and ends.
 use Prim.Native.Nat.{ℕ, zero, suc, _+_, _-_, _*_, _≤_, _<_}
 use native.Mathlib.Omega.{arith}
+use native.Mathlib.Nat.{mul-le-mul-left}
 use native.Mathlib.Numerals.{add-one}
 use mathlib.Core.Path.{_≡_, refl, sym, ap, _∙_, subst}
 use mathlib.Core.List.{List, [], _∷_, _++_, reverse-cons, append-assoc, append-nil}
 use mathlib.Core.Bool.{false}
 use borrow.Author.Tests.{le-leb, lt-leb}
 use lib.ListN.{length}
-use Rattle.limits.specs.Limits.{longest-pattern}
+use Rattle.limits.specs.Work.{rule-states, rule-holds}
+use Rattle.limits.specs.declared.Limits.{Limits}
+use Rattle.limits.proofs.Work.{rule-fits, deep-enough, few-states}
 use Rattle.answers.specs.Outcome.{Outcome, refused, rule, andThen}
 use Rattle.answers.specs.Slice.{fitting}
 use Rattle.cascades.specs.Rule.{Rule, ValidRule, ValidRules, Cascade, having, ending}
@@ -35,8 +38,8 @@ use Rattle.builder.specs.Rules.{Compilable, Gave}
 use Rattle.answers.specs.declared.CompileAnswer.{CompileAnswer}
 
 -- the most tags that i rules hold back
-abbrev held-by : ℕ → ℕ
-held-by i = (longest-pattern - 1) * i
+abbrev held-by : Limits → ℕ → ℕ
+held-by lim i = rule-holds lim * i
 
 -- the first i rules of the arrays, with the end tag
 abbrev pub cut : ℕ → ℕ → Arrays → ℕ → Cascade
@@ -75,8 +78,8 @@ spare-append e [] r v h = (h, tt)
 spare-append e (s ∷ rs) r v h = (v .0, spare-append e rs r (v .1) h)
 
 -- 14 is given for no rule
-pub used : (g : Grid) (W : List ℕ) (ceiling end m : ℕ) (a : Arrays) → Compilable g W ceiling end m a → (i : ℕ) → i < m → misused end (ruleAt a i) ≡ false
-used g W ceiling end m a ok = rule-used (g .tags) m end a (ok .readable .tags) (ok .readable .held) (ok .fits)
+pub used : {lim : Limits} (g : Grid) (W : List ℕ) (ceiling end m : ℕ) (a : Arrays) → Compilable lim g W ceiling end m a → (i : ℕ) → i < m → misused end (ruleAt a i) ≡ false
+used g W ceiling end m a ok = rule-used (g .tags) m end a (omega (arith, ok .readable .tags, ok .readable .ranged .few-tags)) (ok .readable .held) (ok .fits)
 
 -- one more rule in the definition
 module _ (k end c i : ℕ) (t u : Table) (r : Rule) (rs more : List Rule) (e : more ≡ r ∷ rs) (f : addRule k end t r ≡ u) where
@@ -97,25 +100,28 @@ all-kept g W X Y some first rest =
     (kept-wider g (In-rows 0 (g .rows)) (In-rows 0 1) W X first (λ r c e p. (omega arith, omega (arith, p .1)))) rest
 
 -- after the identity's row
-pub begun : (g : Grid) (W X : List ℕ) (ceiling end m : ℕ) (a : Arrays) → Compilable g W ceiling end m a → length X ≡ length W → Compilable g X ceiling end m a
+pub begun : {lim : Limits} (g : Grid) (W X : List ℕ) (ceiling end m : ℕ) (a : Arrays) → Compilable lim g W ceiling end m a → length X ≡ length W → Compilable lim g X ceiling end m a
 begun g W X ceiling end m a ok long = record { sized = sized-kept g W X (ok .sized) long; rows = ok .rows; depth = ok .depth; readable = ok .readable; fits = ok .fits }
 
-module _ (g : Grid) (W : List ℕ) (ceiling end m : ℕ) (a : Arrays) (ok : Compilable g W ceiling end m a) where
+module _ {lim : Limits} (g : Grid) (W : List ℕ) (ceiling end m : ℕ) (a : Arrays) (ok : Compilable lim g W ceiling end m a) where
   abbrev k : ℕ
   k = g .tags
 
-  valid-upto : (i : ℕ) → i ≤ m → ValidRules longest-pattern k (rulesOf a i)
+  abbrev l : ℕ
+  l = lim .pattern
+
+  valid-upto : (i : ℕ) → i ≤ m → ValidRules l k (rulesOf a i)
   valid-upto zero h = tt
   valid-upto (suc i) h =
-      subst (ValidRules longest-pattern k) (sym (rules-next a i)) (valid-append longest-pattern k (rulesOf a i) (ruleAt a i) (valid-upto i (omega arith)) (ok .readable .held .valid i (omega arith)))
+      subst (ValidRules l k) (sym (rules-next a i)) (valid-append l k (rulesOf a i) (ruleAt a i) (valid-upto i (omega arith)) (ok .readable .held .valid i (omega arith)))
 
   spare-upto : (i : ℕ) → i ≤ m → Spare end (rulesOf a i)
   spare-upto zero h = tt
   spare-upto (suc i) h =
       subst (Spare end) (sym (rules-next a i)) (spare-append end (rulesOf a i) (ruleAt a i) (spare-upto i (omega arith)) (spares-used end (ruleAt a i) (used g W ceiling end m a ok i (omega arith))))
 
-  good-upto : (i : ℕ) → i ≤ m → Good k (held-by i) (behavior (cut end k a i)) (tableOf (cut end k a i))
-  good-upto i h = let e : held-by (length (rulesOf a i)) ≡ held-by i = ap held-by (rules-long a i) in rw (← e) (good longest-pattern (cut end k a i) (valid-upto i h) (spare-upto i h))
+  good-upto : (i : ℕ) → i ≤ m → Good k (held-by lim i) (behavior (cut end k a i)) (tableOf (cut end k a i))
+  good-upto i h = let e : held-by lim (length (rulesOf a i)) ≡ held-by lim i = ap (held-by lim) (rules-long a i) in rw (← e) (good l (cut end k a i) (valid-upto i h) (spare-upto i h))
 
   -- no rule is done
   pub progress-start : Holds g W 0 (table k identity) → Progress g W W ceiling end m a 0 1
@@ -140,19 +146,21 @@ module _ (g : Grid) (W : List ℕ) (ceiling end m : ℕ) (a : Arrays) (ok : Comp
     sized-now = sized-kept g W X (ok .sized) (p .kept .long)
 
     -- any valid rule can be added next
-    pub addable : i < m → (r : Rule) → ValidRule longest-pattern k r → misused end r ≡ false → Addable g X n ceiling end r
+    pub addable : i < m → (r : Rule) → ValidRule l k r → misused end r ≡ false → Addable g X n ceiling (rule-states lim) end r
     addable h r v used =
         let t = good-upto i (omega arith) in
         record {
           sized = sized-now;
-          rows = omega (arith, ok .rows, ok .readable .some);
+          rows = omega (arith, ok .rows, rule-fits (rule-states lim) ceiling (ok .readable .some));
           some = ok .readable .some;
-          small = omega (arith, ok .readable .most);
+          small = omega (arith, few-states (rule-states lim) ceiling (omega (arith, ok .readable .ranged .short-pattern)) (ok .readable .most));
           few = p .few;
-          most = held-by i;
+          most = held-by lim i;
           makes = behavior (cut end k a i);
           stands = record { made = record { table = tableOf (cut end k a i); long = p .long; doing = t .doing; so = t .canonical }; holds = p .holds };
-          deep = omega (arith, ok .depth);
+          longest = l;
+          states = omega arith;
+          deep = omega (arith, ok .depth, deep-enough (rule-holds lim) i m h);
           valid = v;
           free = free-used end r used;
         }
@@ -208,9 +216,9 @@ module _ (g : Grid) (W : List ℕ) (ceiling end m : ℕ) (a : Arrays) (ok : Comp
           small = omega (arith, p .few, ok .readable .most);
           holds = holds-at g X 0 n (tableOf (cut end k a i)) (p .holds) (p .long);
           sound = rw at-is (t .doing .sound);
-          most = held-by i;
+          most = held-by lim i;
           held = rw at-is (t .doing .held);
-          room = omega (arith, ok .depth, p .inside);
+          room = omega (arith, ok .depth, mul-le-mul-left (rule-holds lim) (p .inside));
         }
 
     -- all rules are done

@@ -3,6 +3,7 @@
 use answers::CompileAnswer;
 use answers::Refusal;
 use books::HEAD;
+use limits::Limits;
 use limits::PATTERN;
 use limits::RULES;
 use workspace::Grid;
@@ -42,17 +43,19 @@ pub fn build(
     lengths: &[usize; RULES],
     heads: &[[u8; HEAD]; RULES],
     out: &mut [u8],
+    lim: Limits,
 ) -> CompileAnswer
-    requires { ⌜ Compilable g (now work) ceiling end m (arrays rows lengths heads) ⌝ }
+    requires { ⌜ Compilable lim g (now work) ceiling end m (arrays rows lengths heads) ⌝ }
     ensures gave { λ r. ⌜ Gave (built ceiling (length (now (out .entry))) (ending end (cascadeOf (g .tags) (arrays (rows .entry) (lengths .entry) (heads .entry)) m))) (now (out .entry)) (now (out .exit)) r ⌝ }
     ensures kept { λ r. ⌜ Kept g (now (work .entry)) (now (work .exit)) (In-rows 0 (g .rows)) ⌝ }
 {
+    let states = lim.pattern + 1;
     identity::write_identity(work, g);
     let mut n = 1;
     let mut i = 0;
     while i < m {
         let rule = reader::rule_at(rows, lengths, heads, i);
-        let count = addition::add_rule(work, g, n, ceiling, rule, end);
+        let count = addition::add_rule(work, g, n, ceiling, states, rule, end);
         if ceiling < count {
             return CompileAnswer::Refused(Refusal::AtRule {
                 number: 10,

@@ -4,6 +4,8 @@ use books::BookAnswer;
 use books::HEAD;
 use books::PLACE;
 use books::TAG;
+use books::Tags;
+use limits::Limits;
 use limits::PATTERN;
 use limits::RULES;
 use words::wide;
@@ -11,13 +13,14 @@ ghost use mathlib.Core.Path.{_≡_};
 ghost use Prim.Native.Nat.{_+_, _≤_, _<_};
 ghost use lib.ListN.{length, getD};
 ghost use Rattle.answers.specs.declared.Refusal.the-variants.{AtByte};
-ghost use Rattle.limits.specs.Limits.{most-rules};
+ghost use Rattle.limits.specs.Limits.{InRange, most-rules, longest-pattern};
+ghost use Rattle.limits.specs.declared.Limits.{Limits};
 ghost use Rattle.cascades.specs.Rule.{Kind};
 ghost use Rattle.books.specs.declared.BookAnswer.{BookAnswer};
 ghost use Rattle.books.specs.Book.{opener};
 ghost use Rattle.books.specs.Read.{read, closing};
 ghost use Rattle.books.specs.Arrays.{Arrays, arrays, Shaped, rulesDown};
-ghost use Rattle.books.specs.Resume.{Resumes, readCommands, cascadeOutcome, faulted};
+ghost use Rattle.books.specs.Resume.{Resumes, NoRule, Opens, TagsRead, readCommands, cascadeOutcome, faulted};
 
 // The refusal of that number, which names the byte.
 pub fn refused(number: u8, byte: usize) -> BookAnswer
@@ -56,8 +59,9 @@ fn closing_fault(
 }
 
 // 20 and K.
-pub fn open_book(s: &[u8]) -> BookAnswer
-    ensures { λ r. ⌜ ((a : Arrays) → Shaped a → Resumes (now (s .entry)) (read (now (s .entry))) 2 a r) ⌝ }
+pub fn open_book(s: &[u8], lim: Limits) -> BookAnswer
+    ensures resumes { λ r. ⌜ ((a : Arrays) → Shaped a → Resumes lim (now (s .entry)) (read lim (now (s .entry))) 2 a r) ⌝ }
+    ensures empty { λ r. ⌜ NoRule r ⌝ }
 {
     if s.len() == 0 {
         return refused(1, 0);
@@ -73,7 +77,7 @@ pub fn open_book(s: &[u8]) -> BookAnswer
     if n < limits::FEWEST_TAGS {
         return refused(2, 1);
     }
-    if limits::TAGS < n {
+    if lim.tags < n {
         return refused(2, 1);
     }
     BookAnswer::Book { tags: k, rules: 0 }
@@ -91,7 +95,7 @@ pub fn end_book(
 ) -> BookAnswer
     requires { ⌜ Shaped (arrays rows lengths heads) ⌝ }
     requires { ⌜ (m ≤ most-rules) × (at < length (now s)) × (getD (now s) at 0 ≡ 0) ⌝ }
-    ensures { λ r. ⌜ cascadeOutcome r (arrays (rows .entry) (lengths .entry) (heads .entry)) ≡ readCommands (now (s .entry)) k m (arrays (rows .entry) (lengths .entry) (heads .entry)) at ⌝ }
+    ensures { λ r. ⌜ ((lim : Limits) → cascadeOutcome r (arrays (rows .entry) (lengths .entry) (heads .entry)) ≡ readCommands lim (now (s .entry)) k m (arrays (rows .entry) (lengths .entry) (heads .entry)) at) ⌝ }
 {
     let fault = closing_fault(rows, lengths, heads, m);
     if fault != 0 {
@@ -113,16 +117,19 @@ pub fn open_rule(
     rows: &[[u8; PATTERN]; RULES],
     lengths: &mut [usize; RULES],
     heads: &mut [[u8; HEAD]; RULES],
+    lim: Limits,
 ) -> BookAnswer
     requires { ⌜ Shaped (arrays rows lengths heads) ⌝ }
     requires { ⌜ (m ≤ most-rules) × (at < length (now s)) × ((kind : Kind) × (getD (now s) at 0 ≡ opener kind)) ⌝ }
-    ensures { λ r. ⌜ Resumes (now (s .entry)) (readCommands (now (s .entry)) k m (arrays (rows .entry) (lengths .entry) (heads .entry)) at) (at + 1 + 1 + 1) (arrays (rows .entry) (lengths .exit) (heads .exit)) r ⌝ }
+    requires { ⌜ InRange lim ⌝ }
+    ensures resumes { λ r. ⌜ Resumes lim (now (s .entry)) (readCommands lim (now (s .entry)) k m (arrays (rows .entry) (lengths .entry) (heads .entry)) at) (at + 1 + 1 + 1) (arrays (rows .entry) (lengths .exit) (heads .exit)) r ⌝ }
+    ensures opens { λ r. ⌜ Opens k m (arrays (rows .entry) (lengths .exit) (heads .exit)) r ⌝ }
 {
     let fault = closing_fault(rows, lengths, heads, m);
     if fault != 0 {
         return refused(fault, at);
     }
-    if RULES <= m {
+    if lim.rules <= m {
         return refused(7, at);
     }
     let first = at + 1;
@@ -145,37 +152,34 @@ pub fn open_rule(
     }
 }
 
-// 22 at `at`: the next tag of the last rule's pattern.
-pub fn add_tag(
-    s: &[u8],
-    at: usize,
-    k: u8,
-    m: usize,
-    rows: &mut [[u8; PATTERN]; RULES],
-    lengths: &mut [usize; RULES],
-    heads: &[[u8; HEAD]; RULES],
-) -> BookAnswer
-    requires { ⌜ Shaped (arrays rows lengths heads) ⌝ }
-    requires { ⌜ (m ≤ most-rules) × (at < length (now s)) × (getD (now s) at 0 ≡ 0x22) ⌝ }
-    ensures { λ r. ⌜ Resumes (now (s .entry)) (readCommands (now (s .entry)) k m (arrays (rows .entry) (lengths .entry) (heads .entry)) at) (at + 1 + 1) (arrays (rows .exit) (lengths .exit) (heads .entry)) r ⌝ }
+// 22 at `from` and on: the tags of a pattern, into its row.
+pub fn read_tags(s: &[u8], from: usize, k: u8, row: &mut [u8; PATTERN], most: usize) -> Tags
+    requires { ⌜ (from ≤ length (now s)) × (length (now row) ≡ longest-pattern) × (most ≤ longest-pattern) ⌝ }
+    ensures { λ r. ⌜ TagsRead (now (s .entry)) from k most (now (row .exit)) r ⌝ }
 {
-    if m == 0 {
-        return refused(1, at);
+    let mut at = from;
+    let mut n = 0;
+    while at < s.len() {
+        if s[at] != 0x22 {
+            return Tags::To { at, n };
+        }
+        if most <= n {
+            return Tags::Refused {
+                number: 3,
+                byte: at,
+            };
+        }
+        let byte = at + 1;
+        if s.len() == byte {
+            return Tags::Refused { number: 1, byte };
+        }
+        let tag = s[byte];
+        if k <= tag {
+            return Tags::Refused { number: 4, byte };
+        }
+        row[n] = tag;
+        n += 1;
+        at += 2;
     }
-    let last = m - 1;
-    let n = lengths[last];
-    if PATTERN <= n {
-        return refused(3, at);
-    }
-    let first = at + 1;
-    if s.len() == first {
-        return refused(1, first);
-    }
-    let tag = s[first];
-    if k <= tag {
-        return refused(4, first);
-    }
-    rows[last][n] = tag;
-    lengths[last] = n + 1;
-    BookAnswer::Book { tags: k, rules: m }
+    Tags::To { at, n }
 }

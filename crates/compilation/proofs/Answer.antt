@@ -2,6 +2,7 @@
 use Prim.Native.Nat.{ℕ, suc, _-_, _≤_, _<_}
 use native.Mathlib.Omega.{arith}
 use native.Mathlib.Decide.{decLt}
+use native.Mathlib.Nat.{mul-le-mul-left}
 use mathlib.Core.Path.{_≡_, refl, sym, ap, _∙_, subst}
 use mathlib.Core.Bool.{Bool, true, false, not, _&&_}
 use mathlib.Core.List.{List, [], _∷_, _++_, append-assoc, append-nil}
@@ -9,10 +10,13 @@ use borrow.Author.Tests.{leb-true, le-leb, lt-leb}
 use lib.Dec.{leb}
 use lib.ListN.{length, take, length-append}
 use lib.Seq.{take-at}
-use Rattle.limits.specs.Limits.{most-states, longest-pattern}
+use Rattle.limits.specs.Limits.{most-states, InRange, inRange}
+use Rattle.limits.specs.declared.Limits.{Limits}
+use Rattle.limits.proofs.Range.{in-range, within-is}
 use Rattle.answers.specs.Outcome.{Outcome, result, refused, nothing, byte, rule, andThen, provided}
 use Rattle.cascades.specs.Rule.{Rule, Cascade, having, ending, leading}
 use Rattle.cascades.specs.Ending.{badEnd}
+use Rattle.cascades.specs.Spares.{Spare}
 use Rattle.books.specs.Read.{read}
 use Rattle.books.specs.Ending.{fitted, readEnding, ValidEnding}
 use Rattle.books.proofs.Ending.{valid-spare, reads-ending}
@@ -120,17 +124,27 @@ told n c = told-from n c [] (c .rules) (tableOf (having c [])) refl (λ j x y. a
 
 -- ---- the bytes of a table that fits
 
--- a cascade's table with at most 256 states is valid
-pub table-valid : (c : Cascade) → ValidEnding c → length (tableOf c) ≤ most-states → ValidTable (c .tags) (tableOf c)
-table-valid c v few =
-    let g = good longest-pattern c (v .book-valid .rules-valid) (valid-spare c v) .doing in
+-- limits in their ranges, and within them a valid book, whose rules leave the end tag where it is
+pub record Proper (lim : Limits) (c : Cascade) : Type 0 where
+  pub ranged : InRange lim
+  pub valid : ValidEnding lim c
+  pub spare : Spare (c .end) (c .rules)
+
+pub proper : (lim : Limits) (book : List ℕ) (end : ℕ) (c : Cascade) → InRange lim → readEnding lim book end ≡ result c → Proper lim c
+proper lim book end c r e = let v = reads-ending book end c e .0 in record { ranged = r; valid = v; spare = valid-spare c v r }
+
+-- a cascade's table with at most 256 states is valid under its limits
+pub table-valid : {lim : Limits} (c : Cascade) → Proper lim c → length (tableOf c) ≤ most-states → ValidTable lim (c .tags) (tableOf c)
+table-valid {lim} c v few =
+    let g = good (lim .pattern) c (v .valid .book-valid .rules-valid) (v .spare) .doing in
+    let rules : length (c .rules) ≤ 16 = omega (arith, v .valid .book-valid .few-rules, v .ranged .few-rules) in
     record {
-      tags-least = v .book-valid .enough-tags;
-      tags-most = v .book-valid .few-tags;
+      tags-least = v .valid .book-valid .enough-tags;
+      tags-most = v .valid .book-valid .few-tags;
       states-least = g .sound .some;
       states-most = few;
       start = g .sound .empty;
-      held = λ q h. omega (arith, g .held q h, v .book-valid .few-rules);
+      held = λ q h. omega (arith, g .held q h, mul-le-mul-left (lim .pattern - 1) rules);
       final-below = g .sound .final-below;
       whole = g .rows;
       next-below = g .sound .next-below;
@@ -141,46 +155,56 @@ table-valid c v few =
 -- ---- the stages of the answer
 
 -- the outcomes of what is tested before a state is built: a refusal that names no rule, or the cascade of a valid book
-pub data Tested (book : List ℕ) (end n work : ℕ) : Outcome Cascade → Type 0 where
-  names-nothing : (j : ℕ) → 1 ≤ j → j < 256 → (j ≡ 10 → ⊥) → Tested book end n work (refused j nothing)
-  names-byte : (j b : ℕ) → 1 ≤ j → j < 256 → (j ≡ 10 → ⊥) → Tested book end n work (refused j (byte b))
-  goes-on : (c : Cascade) → ValidEnding c → Premises book end n work c → Tested book end n work (result c)
+pub data Tested (lim : Limits) (book : List ℕ) (end n work : ℕ) : Outcome Cascade → Type 0 where
+  names-nothing : (j : ℕ) → 1 ≤ j → j < 256 → (j ≡ 10 → ⊥) → Tested lim book end n work (refused j nothing)
+  names-byte : (j b : ℕ) → 1 ≤ j → j < 256 → (j ≡ 10 → ⊥) → Tested lim book end n work (refused j (byte b))
+  goes-on : (c : Cascade) → Proper lim c → Premises lim book end n work c → Tested lim book end n work (result c)
 
-pub test : (book : List ℕ) (end n work : ℕ) → Tested book end n work (tested book end n work)
-test book end n work = by-ceiling (leb 1 n) (leb n most-states) refl refl
+-- what comes after 17
+test-after : (lim : Limits) (book : List ℕ) (end n work : ℕ) → InRange lim
+    → Tested lim book end n work (provided 8 (leb 1 n && leb n most-states) (andThen (readEnding lim book end) (roomed lim n work)))
+test-after lim book end n work r = by-ceiling (leb 1 n) (leb n most-states) refl refl
   where
-    by-entries : (c : Cascade) → readEnding book end ≡ result c → 1 ≤ n → n ≤ most-states → (b : Bool) → leb (entries n c) work ≡ b → Tested book end n work (provided 9 b (result c))
-    by-entries c e s m true f = goes-on c (reads-ending book end c e .0) (record { reads = e; some = s; most = m; long = leb-true (entries n c) work f })
+    by-entries : (c : Cascade) → readEnding lim book end ≡ result c → 1 ≤ n → n ≤ most-states → (b : Bool) → leb (entries lim n c) work ≡ b → Tested lim book end n work (provided 9 b (result c))
+    by-entries c e s m true f = goes-on c (proper lim book end c r e) (record { ranged = r; reads = e; some = s; most = m; long = leb-true (entries lim n c) work f })
     by-entries c e s m false f = names-nothing 9 (omega arith) (omega arith) (λ z. omega (arith, z))
 
-    by-end : (c : Cascade) → read book ≡ result c → 1 ≤ n → n ≤ most-states → (b : Bool) → not (badEnd (ending end c)) ≡ b
-        → Tested book end n work (andThen (provided 14 b (result (ending end c))) (roomed n work))
+    by-end : (c : Cascade) → read lim book ≡ result c → 1 ≤ n → n ≤ most-states → (b : Bool) → not (badEnd (ending end c)) ≡ b
+        → Tested lim book end n work (andThen (provided 14 b (result (ending end c))) (roomed lim n work))
     by-end c e s m true f =
-        by-entries (ending end c) (ap (λ (o : Outcome Cascade). andThen o (fitted end)) e ∙ ap (λ (x : Bool). provided 14 x (result (ending end c))) f) s m (leb (entries n (ending end c)) work) refl
+        by-entries (ending end c) (ap (λ (o : Outcome Cascade). andThen o (fitted end)) e ∙ ap (λ (x : Bool). provided 14 x (result (ending end c))) f) s m (leb (entries lim n (ending end c)) work) refl
     by-end c e s m false f = names-nothing 14 (omega arith) (omega arith) (λ z. omega (arith, z))
 
-    by-book : (o : Outcome Cascade) → BookRefusal o → read book ≡ o → 1 ≤ n → n ≤ most-states
-        → Tested book end n work (andThen (andThen o (fitted end)) (roomed n work))
+    by-book : (o : Outcome Cascade) → BookRefusal lim o → read lim book ≡ o → 1 ≤ n → n ≤ most-states
+        → Tested lim book end n work (andThen (andThen o (fitted end)) (roomed lim n work))
     by-book (result c) x e s m = by-end c e s m (not (badEnd (ending end c))) refl
     by-book (refused j nothing) x e s m = absurd x
     by-book (refused j (byte b)) x e s m = names-byte j b (x .0) (omega (arith, x .1)) (λ z. omega (arith, z, x .1))
     by-book (refused j (rule i)) x e s m = absurd x
 
     by-ceiling : (a b : Bool) → leb 1 n ≡ a → leb n most-states ≡ b
-        → Tested book end n work (provided 8 (a && b) (andThen (readEnding book end) (roomed n work)))
-    by-ceiling true true e f = by-book (read book) (book-refusal book) refl (leb-true 1 n e) (leb-true n most-states f)
+        → Tested lim book end n work (provided 8 (a && b) (andThen (readEnding lim book end) (roomed lim n work)))
+    by-ceiling true true e f = by-book (read lim book) (book-refusal lim book) refl (leb-true 1 n e) (leb-true n most-states f)
     by-ceiling true false e f = names-nothing 8 (omega arith) (omega arith) (λ z. omega (arith, z))
     by-ceiling false b e f = names-nothing 8 (omega arith) (omega arith) (λ z. omega (arith, z))
 
+pub test : (lim : Limits) (book : List ℕ) (end n work : ℕ) → Tested lim book end n work (tested lim book end n work)
+test lim book end n work = by (inRange lim) refl
+  where
+    by : (b : Bool) → inRange lim ≡ b → Tested lim book end n work (provided 17 b (provided 8 (leb 1 n && leb n most-states) (andThen (readEnding lim book end) (roomed lim n work))))
+    by true e = test-after lim book end n work (in-range lim e)
+    by false e = names-nothing 17 (omega arith) (omega arith) (λ z. omega (arith, z))
+
 -- where the premises hold, nothing before 10 is refused
-pub premises-tested : (book : List ℕ) (end n work : ℕ) (c : Cascade) → Premises book end n work c → tested book end n work ≡ result c
-premises-tested book end n work c h =
-    cc (
+pub premises-tested : (lim : Limits) (book : List ℕ) (end n work : ℕ) (c : Cascade) → Premises lim book end n work c → tested lim book end n work ≡ result c
+premises-tested lim book end n work c h =
+    within-is lim (provided 8 (leb 1 n && leb n most-states) (andThen (readEnding lim book end) (roomed lim n work))) (h .ranged)
+    ∙ cc (
       h .reads,
       le-leb 1 n (h .some),
       le-leb n most-states (h .most),
-      le-leb (entries n c) work (h .long),
+      le-leb (entries lim n c) work (h .long),
     )
 
-pub premises-answer : (book : List ℕ) (end n work room : ℕ) (c : Cascade) → Premises book end n work c → compileAnswer book end n work room ≡ built n room c
-premises-answer book end n work room c h = ap (λ (o : Outcome Cascade). andThen o (built n room)) (premises-tested book end n work c h)
+pub premises-answer : (lim : Limits) (book : List ℕ) (end n work room : ℕ) (c : Cascade) → Premises lim book end n work c → compileAnswer lim book end n work room ≡ built n room c
+premises-answer lim book end n work room c h = ap (λ (o : Outcome Cascade). andThen o (built n room)) (premises-tested lim book end n work c h)

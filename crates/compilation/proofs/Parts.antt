@@ -2,47 +2,48 @@
 use Prim.Native.Nat.{ℕ, suc, _-_, _≤_, _<_}
 use native.Mathlib.Omega.{arith}
 use native.Mathlib.Decide.{decLt}
-use mathlib.Core.Path.{_≡_, sym, ap, ap₂, _∙_, subst}
+use mathlib.Core.Path.{_≡_, ap, ap₂, subst}
 use mathlib.Core.Logic.{_↔_}
 use mathlib.Core.Bool.{Bool, true, false}
 use mathlib.Core.List.{List, [], _∷_}
 use lib.Dec.{leb}
 use lib.ListN.{length}
 use lib.Seq.{take-length}
-use Rattle.limits.specs.Limits.{longest-pattern, most-states}
+use Rattle.limits.specs.Limits.{most-states}
+use Rattle.limits.specs.declared.Limits.{Limits}
 use Rattle.answers.specs.Outcome.{Outcome, result, refused, rule, andThen, provided}
 use Rattle.answers.specs.Slice.{fitting}
 use Rattle.cascades.specs.Rule.{Rule, Cascade, having, leading}
-use Rattle.books.specs.Ending.{readEnding, ValidEnding}
-use Rattle.books.proofs.Ending.{valid-spare}
+use Rattle.books.specs.Ending.{readEnding}
 use Rattle.transducers.specs.Table.{Table}
 use Rattle.minimal.specs.TableOf.{tableOf}
 use Rattle.minimal.proofs.Theorems as theorems
 use Rattle.tables.specs.Bytes.{encode}
-use Rattle.tables.specs.Decode.{Decoded, decode}
-use Rattle.tables.proofs.Theorem.{encoded}
+use Rattle.tables.specs.Decode.{Decoded}
+use Rattle.tables.proofs.Theorem.{encoded, same-encoding}
 use Rattle.tables.proofs.Words.{number-bytes}
 use Rattle.compilation.specs.Compile.{built, compileAnswer}
 use Rattle.compilation.specs.Demand.{NeedsMore, PartNeedsMore, Shortest, Alike, Premises, SmallestTable}
-use Rattle.compilation.proofs.Answer.{Few, Exceeds, Told, fits, exceeds, told, table-valid, Tested, names-nothing, names-byte, goes-on, test}
+use Rattle.compilation.proofs.Answer.{Few, Exceeds, Told, fits, exceeds, told, table-valid, Proper, Tested, names-nothing, names-byte, goes-on, test}
 
 -- ---- leading parts
 
 -- the first i rules need more than n states in every machine exactly if their table has more
-pub needs-count : (c : Cascade) → ValidEnding c → (n i : ℕ) → NeedsMore n (leading i c) ↔ (n < length (tableOf (leading i c)))
-needs-count c v n i = theorems.needs longest-pattern (leading i c) (theorems.valid-leading longest-pattern c (v .book-valid .rules-valid) i) (theorems.spare-leading c (valid-spare c v) i) n
+pub needs-count : {lim : Limits} (c : Cascade) → Proper lim c → (n i : ℕ) → NeedsMore n (leading i c) ↔ (n < length (tableOf (leading i c)))
+needs-count {lim} c v n i =
+    theorems.needs (lim .pattern) (leading i c) (theorems.valid-leading (lim .pattern) c (v .valid .book-valid .rules-valid) i) (theorems.spare-leading c (v .spare) i) n
 
-exceeds-part : (c : Cascade) → ValidEnding c → (n i : ℕ) → Exceeds n c i → PartNeedsMore c n i
+exceeds-part : {lim : Limits} (c : Cascade) → Proper lim c → (n i : ℕ) → Exceeds n c i → PartNeedsMore c n i
 exceeds-part c v n i h = record { some = h .some; inside = h .inside; more = needs-count c v n i .1 (h .more) }
 
-pub exceeds-shortest : (c : Cascade) → ValidEnding c → (n i : ℕ) → Exceeds n c i → Shortest c n i
+pub exceeds-shortest : {lim : Limits} (c : Cascade) → Proper lim c → (n i : ℕ) → Exceeds n c i → Shortest c n i
 exceeds-shortest c v n i h = record { part = exceeds-part c v n i h; least = λ j p. least j p (decLt j i) }
   where
     least : (j : ℕ) → PartNeedsMore c n j → Dec (j < i) → i ≤ j
     least j p (yes l) = absurd (omega (arith, needs-count c v n j .0 (p .more), h .fewer j (p .some) (omega arith)))
     least j p (no l) = omega arith
 
-pub shortest-exceeds : (c : Cascade) → ValidEnding c → (n i : ℕ) → Shortest c n i → Exceeds n c i
+pub shortest-exceeds : {lim : Limits} (c : Cascade) → Proper lim c → (n i : ℕ) → Shortest c n i → Exceeds n c i
 shortest-exceeds c v n i h =
     record {
       some = h .part .some;
@@ -57,17 +58,17 @@ shortest-exceeds c v n i h =
         absurd (omega (arith, h .least j p, h .part .some))
     few j a b (no m) = omega arith
 
-pub bytes-smallest : (c : Cascade) → ValidEnding c → length (tableOf c) ≤ most-states → SmallestTable c (encode (c .tags) (tableOf c))
-bytes-smallest c v few =
+pub bytes-smallest : {lim : Limits} (c : Cascade) → Proper lim c → length (tableOf c) ≤ most-states → SmallestTable lim c (encode (c .tags) (tableOf c))
+bytes-smallest {lim} c v few =
     let t = tableOf c in
     record {
       table = t;
-      decodes = encoded (c .tags) t (table-valid c v few);
+      decodes = encoded lim (c .tags) t (table-valid c v few);
       carries = number-bytes (length t);
-      does = theorems.does longest-pattern c (v .book-valid .rules-valid) (valid-spare c v);
-      smallest = theorems.smallest longest-pattern c (v .book-valid .rules-valid) (valid-spare c v);
-      early = theorems.early longest-pattern c (v .book-valid .rules-valid) (valid-spare c v);
-      numbered = theorems.numbered longest-pattern c (v .book-valid .rules-valid) (valid-spare c v);
+      does = theorems.does (lim .pattern) c (v .valid .book-valid .rules-valid) (v .spare);
+      smallest = theorems.smallest (lim .pattern) c (v .valid .book-valid .rules-valid) (v .spare);
+      early = theorems.early (lim .pattern) c (v .valid .book-valid .rules-valid) (v .spare);
+      numbered = theorems.numbered (lim .pattern) c (v .valid .book-valid .rules-valid) (v .spare);
     }
 
 -- the whole of the rules is a leading part, unless there is no rule
@@ -114,50 +115,43 @@ module _ (c : Cascade) (n room : ℕ) where
       by (no l) (yes m) = absurd (omega (arith, x .fewer j (y .some) (omega arith), y .more))
       by (no l) (no m) = let z : j ≡ i = omega arith in cc
 
--- equal bytes are equal tables
-encode-one : (c d : Cascade) → ValidEnding c → ValidEnding d → length (tableOf c) ≤ most-states → length (tableOf d) ≤ most-states
+-- equal bytes are equal tables, though the limits may differ
+encode-one : {lim lim' : Limits} (c d : Cascade) → Proper lim c → Proper lim' d → length (tableOf c) ≤ most-states → length (tableOf d) ≤ most-states
     → encode (c .tags) (tableOf c) ≡ encode (d .tags) (tableOf d)
     → tableOf c ≡ tableOf d
 encode-one c d v w l m b =
-    let x = encoded (c .tags) (tableOf c) (table-valid c v l) in
-    let y = encoded (d .tags) (tableOf d) (table-valid d w m) in
-    table-of
-    (record { tags = c .tags; table = tableOf c })
-    (record { tags = d .tags; table = tableOf d })
-    (sym x ∙ ap decode b ∙ y)
-  where
-    table-of : (p q : Decoded) → result p ≡ result q → p .table ≡ q .table
-    table-of p q h = let e : p ≡ q = cc in ap (λ (z : Decoded). z .table) e
+    ap (λ (z : Decoded). z .table)
+    (same-encoding (record { tags = c .tags; table = tableOf c }) (record { tags = d .tags; table = tableOf d }) (table-valid c v l) (table-valid d w m) b)
 
 -- the same of the bytes of two valid cascades
-pub encode-alike : (c d : Cascade) → ValidEnding c → ValidEnding d → length (tableOf c) ≤ most-states → length (tableOf d) ≤ most-states
+pub encode-alike : {lim lim' : Limits} (c d : Cascade) → Proper lim c → Proper lim' d → length (tableOf c) ≤ most-states → length (tableOf d) ≤ most-states
     → c .tags ≡ d .tags → (encode (c .tags) (tableOf c) ≡ encode (d .tags) (tableOf d)) ↔ Alike c d
-encode-alike c d v w l m k =
-    let same = theorems.canonical longest-pattern longest-pattern c d (v .book-valid .rules-valid) (valid-spare c v) (w .book-valid .rules-valid) (valid-spare d w) k in
+encode-alike {lim} {lim'} c d v w l m k =
+    let same = theorems.canonical (lim .pattern) (lim' .pattern) c d (v .valid .book-valid .rules-valid) (v .spare) (w .valid .book-valid .rules-valid) (w .spare) k in
     (λ b. same .0 (encode-one c d v w l m b), λ a. ap₂ encode k (same .1 a))
 
 -- ---- compiled bytes
 
 -- the bytes that a cascade was compiled to with the ceiling n
-pub record Made (book : List ℕ) (end n work : ℕ) (bytes : List ℕ) (c : Cascade) : Type 0 where
-  pub premises : Premises book end n work c
-  pub valid : ValidEnding c
+pub record Made (lim : Limits) (book : List ℕ) (end n work : ℕ) (bytes : List ℕ) (c : Cascade) : Type 0 where
+  pub premises : Premises lim book end n work c
+  pub valid : Proper lim c
   pub within : length (tableOf c) ≤ most-states
   pub bytes-are : bytes ≡ encode (c .tags) (tableOf c)
 
-module _ (book : List ℕ) (end n work room : ℕ) (bytes : List ℕ) (e : compileAnswer book end n work room ≡ result bytes) where
-  pub some-made : (c : Cascade) × Made book end n work bytes c
-  some-made = by (test book end n work) e
+module _ (lim : Limits) (book : List ℕ) (end n work room : ℕ) (bytes : List ℕ) (e : compileAnswer lim book end n work room ≡ result bytes) where
+  pub some-made : (c : Cascade) × Made lim book end n work bytes c
+  some-made = by (test lim book end n work) e
     where
-      by : {o : Outcome Cascade} → Tested book end n work o → andThen o (built n room) ≡ result bytes → (c : Cascade) × Made book end n work bytes c
+      by : {o : Outcome Cascade} → Tested lim book end n work o → andThen o (built n room) ≡ result bytes → (c : Cascade) × Made lim book end n work bytes c
       by (names-nothing j l m t) e = let z : _≡_ {A = ℕ} 0 1 = cc in absurd (omega arith)
       by (names-byte j b l m t) e = let z : _≡_ {A = ℕ} 0 1 = cc in absurd (omega arith)
       by (goes-on c v p) e =
           let t = told-bytes c n room bytes (told n c) e in
           (c, record { premises = p; valid = v; within = omega (arith, whole-few c n (p .some) (t .0), p .most); bytes-are = t .1 })
 
-  pub made : (c : Cascade) → readEnding book end ≡ result c → Made book end n work bytes c
+  pub made : (c : Cascade) → readEnding lim book end ≡ result c → Made lim book end n work bytes c
   made c f = by (some-made .0) (some-made .1)
     where
-      by : (d : Cascade) → Made book end n work bytes d → Made book end n work bytes c
-      by d m = let g : d ≡ c = cc (m .premises .reads) in subst (Made book end n work bytes) g m
+      by : (d : Cascade) → Made lim book end n work bytes d → Made lim book end n work bytes c
+      by d m = let g : d ≡ c = cc (m .premises .reads) in subst (Made lim book end n work bytes) g m

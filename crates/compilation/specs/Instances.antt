@@ -4,7 +4,8 @@ use mathlib.Core.Bool.{Bool, true, false, _&&_}
 use mathlib.Core.List.{List, [], _∷_}
 use lib.Dec.{eqb}
 use lib.ListN.{length, getD}
-use Rattle.limits.specs.Limits.{most-tags, most-rules, most-states, no-end, work-entries}
+use Rattle.limits.specs.Limits.{most-tags, most-rules, most-states, no-end, standard}
+use Rattle.limits.specs.Work.{work-entries}
 use Rattle.words.specs.Word.{differences, same}
 use Rattle.answers.specs.Outcome.{Outcome, result, refused, nothing, byte, rule}
 use Rattle.cascades.specs.Rule.{Rule, Cascade}
@@ -68,16 +69,16 @@ multiplied (refused n q) p = false
 
 -- slices that are long enough for these books
 abbrev pub long-work : ℕ
-long-work = work-entries most-states most-tags most-rules
+long-work = work-entries standard most-states most-tags most-rules
 
 abbrev pub long-out : ℕ
 long-out = 65536
 
 abbrev pub holds : Instance → Bool
-holds (turns book sentence made changes) = gives (bookRun book no-end sentence (length sentence)) made && eqb (differences sentence made) changes
-holds (needs-more book n i) = gives-10 (compileAnswer book no-end n long-work long-out) i
-holds (compiles book n bytes) = gives (compileAnswer book no-end n long-work long-out) bytes
-holds (states book s p) = carries (compileAnswer book no-end most-states long-work long-out) s && multiplied (read book) p
+holds (turns book sentence made changes) = gives (bookRun standard book no-end sentence (length sentence)) made && eqb (differences sentence made) changes
+holds (needs-more book n i) = gives-10 (compileAnswer standard book no-end n long-work long-out) i
+holds (compiles book n bytes) = gives (compileAnswer standard book no-end n long-work long-out) bytes
+holds (states book s p) = carries (compileAnswer standard book no-end most-states long-work long-out) s && multiplied (read standard book) p
 
 abbrev pub instances : List Instance
 instances =

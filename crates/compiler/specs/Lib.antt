@@ -1,3 +1,4 @@
 -- The compile call.
 pub mod Answer
+pub mod Rows
 pub mod Ended

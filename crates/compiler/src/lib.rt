@@ -4,21 +4,20 @@ use answers::Refusal;
 use books::BookAnswer;
 use books::HEAD;
 use limits::LEAST_DEPTH;
+use limits::Limits;
 use limits::PATTERN;
-use limits::RULE_DEPTH;
 use limits::RULES;
-use limits::STATE_ROWS;
 use limits::STATES;
 use words::wide;
 use workspace::Grid;
 ghost use mathlib.Core.Path.{_≡_};
 ghost use mathlib.Core.Bool.{false};
-ghost use Prim.Native.Nat.{_≤_};
+ghost use Prim.Native.Nat.{_+_, _*_, _≤_};
 ghost use mathlib.Core.List.{_++_};
 ghost use lib.ListN.{length, drop, replicate};
 ghost use Rattle.answers.specs.Slice.{longOf, written};
 ghost use Rattle.answers.specs.Answer.{compileOutcome};
-ghost use Rattle.limits.specs.Limits.{no-end};
+ghost use Rattle.limits.specs.Limits.{no-end, most-states, most-rules, most-tags, InRange};
 ghost use Rattle.answers.specs.Outcome.{andThen};
 ghost use Rattle.cascades.specs.Rule.{ending};
 ghost use Rattle.cascades.specs.Ending.{badEnd};
@@ -27,6 +26,7 @@ ghost use Rattle.books.specs.Ending.{fitted};
 ghost use Rattle.compilation.specs.Compile.{roomed, tested, compileAnswer};
 ghost use Rattle.builder.specs.Rules.{Readable};
 ghost use Rattle.compiler.specs.Answer.{worked};
+ghost use Rattle.compiler.specs.Rows.{gridOf};
 ghost use Rattle.compiler.specs.Ended.{Ended};
 
 // The first n entries become zero.
@@ -41,6 +41,28 @@ fn wipe(work: &mut [u16], n: usize)
     }
 }
 
+// The rows of the work slice for a ceiling and m rules over k tags.
+fn grid_of(k: u8, ceiling: usize, m: usize, lim: Limits) -> Grid
+    requires { ⌜ (ceiling ≤ most-states) × (m ≤ most-rules) × InRange lim ⌝ }
+    ensures { λ g. ⌜ g ≡ gridOf lim k ceiling m ⌝ }
+{
+    let states = lim.pattern + 1;
+    let holds = lim.pattern - 1;
+    Grid {
+        rows: 2 * (states + 1) * ceiling,
+        tags: wide(k),
+        depth: holds * m + LEAST_DEPTH,
+    }
+}
+
+// Their entries.
+fn entries_of(g: Grid) -> usize
+    requires { ⌜ (g .rows ≤ 5120) × (g .tags ≤ most-tags) × (g .depth ≤ 120) ⌝ }
+    ensures { λ r. ⌜ r ≡ g .rows * (g .tags + 1) * g .depth ⌝ }
+{
+    g.rows * (g.tags + 1) * g.depth
+}
+
 // The first m rules of the arrays over k tags: the table's bytes, 9, 10 or 11. The work slice is zero again after it.
 fn compile_read(
     work: &mut [u16],
@@ -52,22 +74,19 @@ fn compile_read(
     lengths: &[usize; RULES],
     heads: &[[u8; HEAD]; RULES],
     out: &mut [u8],
+    lim: Limits,
 ) -> CompileAnswer
-    requires { ⌜ Readable k ceiling m (arrays rows lengths heads) ⌝ }
+    requires { ⌜ Readable lim k ceiling m (arrays rows lengths heads) ⌝ }
     requires { ⌜ badEnd (ending end (cascadeOf k (arrays rows lengths heads) m)) ≡ false ⌝ }
-    ensures { λ r. ⌜ Ended (roomed ceiling (length (now (work .entry))) (ending end (cascadeOf k (arrays (rows .entry) (lengths .entry) (heads .entry)) m))) ceiling (now (work .entry)) (now (work .exit)) (now (out .entry)) (now (out .exit)) r ⌝ }
+    ensures { λ r. ⌜ Ended lim (roomed lim ceiling (length (now (work .entry))) (ending end (cascadeOf k (arrays (rows .entry) (lengths .entry) (heads .entry)) m))) ceiling (now (work .entry)) (now (work .exit)) (now (out .entry)) (now (out .exit)) r ⌝ }
 {
-    let g = Grid {
-        rows: STATE_ROWS * ceiling,
-        tags: wide(k),
-        depth: RULE_DEPTH * m + LEAST_DEPTH,
-    };
-    let entries = g.rows * (g.tags + 1) * g.depth;
+    let g = grid_of(k, ceiling, m, lim);
+    let entries = entries_of(g);
     if work.len() < entries {
         return CompileAnswer::Refused(Refusal::Bare { number: 9 });
     }
     let last = wide(end);
-    let answer = builder::build(work, g, ceiling, last, m, rows, lengths, heads, out);
+    let answer = builder::build(work, g, ceiling, last, m, rows, lengths, heads, out, lim);
     wipe(work, entries);
     answer
 }
@@ -83,28 +102,28 @@ fn compile_rules(
     lengths: &[usize; RULES],
     heads: &[[u8; HEAD]; RULES],
     out: &mut [u8],
+    lim: Limits,
 ) -> CompileAnswer
-    requires { ⌜ Readable k ceiling m (arrays rows lengths heads) ⌝ }
-    ensures { λ r. ⌜ Ended (andThen (fitted end (cascadeOf k (arrays (rows .entry) (lengths .entry) (heads .entry)) m)) (roomed ceiling (length (now (work .entry))))) ceiling (now (work .entry)) (now (work .exit)) (now (out .entry)) (now (out .exit)) r ⌝ }
+    requires { ⌜ Readable lim k ceiling m (arrays rows lengths heads) ⌝ }
+    ensures { λ r. ⌜ Ended lim (andThen (fitted end (cascadeOf k (arrays (rows .entry) (lengths .entry) (heads .entry)) m)) (roomed lim ceiling (length (now (work .entry))))) ceiling (now (work .entry)) (now (work .exit)) (now (out .entry)) (now (out .exit)) r ⌝ }
 {
     if endings::bad_end(k, rows, lengths, heads, m, end) {
         return CompileAnswer::Refused(Refusal::Bare { number: 14 });
     }
-    compile_read(work, ceiling, end, k, m, rows, lengths, heads, out)
+    compile_read(work, ceiling, end, k, m, rows, lengths, heads, out, lim)
 }
 
-// Compiles a book whose sentences an end tag ends (255 for none): the number of bytes of its smallest table, which stands at the front of
-// `out`; or the refusal.
-pub fn compile_ending(
+// Compiles a book with limits that are in their ranges: 8, the book's refusals, and the same.
+fn compile_within(
     book: &[u8],
     end: u8,
     ceiling: usize,
     work: &mut [u16],
     out: &mut [u8],
+    lim: Limits,
 ) -> CompileAnswer
-    ensures answer { λ r. ⌜ compileOutcome r ≡ longOf (compileAnswer (now (book .entry)) end ceiling (length (now (work .entry))) (length (now (out .entry)))) ⌝ }
-    ensures out { λ r. ⌜ now (out .exit) ≡ written (compileAnswer (now (book .entry)) end ceiling (length (now (work .entry))) (length (now (out .entry)))) (now (out .entry)) ⌝ }
-    ensures work { λ r. ⌜ now (work .exit) ≡ worked ceiling (tested (now (book .entry)) end ceiling (length (now (work .entry)))) (now (work .entry)) ⌝ }
+    requires { ⌜ InRange lim ⌝ }
+    ensures { λ r. ⌜ Ended lim (tested lim (now (book .entry)) end ceiling (length (now (work .entry)))) ceiling (now (work .entry)) (now (work .exit)) (now (out .entry)) (now (out .exit)) r ⌝ }
 {
     if ceiling < 1 {
         return CompileAnswer::Refused(Refusal::Bare { number: 8 });
@@ -115,7 +134,7 @@ pub fn compile_ending(
     let mut rows = [[0u8; PATTERN]; RULES];
     let mut lengths = [0usize; RULES];
     let mut heads = [[0u8; HEAD]; RULES];
-    let got = reader::read_into(book, &mut rows, &mut lengths, &mut heads);
+    let got = reader::read_into(book, &mut rows, &mut lengths, &mut heads, lim);
     match got {
         BookAnswer::Refused(refusal) => CompileAnswer::Refused(refusal),
         BookAnswer::Book { tags: k, rules } => compile_rules(
@@ -128,15 +147,42 @@ pub fn compile_ending(
             &lengths,
             &heads,
             out,
+            lim,
         ),
     }
 }
 
-// The same with no end tag.
-pub fn compile(book: &[u8], ceiling: usize, work: &mut [u16], out: &mut [u8]) -> CompileAnswer
-    ensures answer { λ r. ⌜ compileOutcome r ≡ longOf (compileAnswer (now (book .entry)) no-end ceiling (length (now (work .entry))) (length (now (out .entry)))) ⌝ }
-    ensures out { λ r. ⌜ now (out .exit) ≡ written (compileAnswer (now (book .entry)) no-end ceiling (length (now (work .entry))) (length (now (out .entry)))) (now (out .entry)) ⌝ }
-    ensures work { λ r. ⌜ now (work .exit) ≡ worked ceiling (tested (now (book .entry)) no-end ceiling (length (now (work .entry)))) (now (work .entry)) ⌝ }
+// Compiles a book whose sentences an end tag ends (255 for none): the number of bytes of its smallest table, which stands at the front of
+// `out`; or the refusal, 17 before all others.
+pub fn compile_ending(
+    book: &[u8],
+    end: u8,
+    ceiling: usize,
+    work: &mut [u16],
+    out: &mut [u8],
+    lim: Limits,
+) -> CompileAnswer
+    ensures answer { λ r. ⌜ compileOutcome r ≡ longOf (compileAnswer lim (now (book .entry)) end ceiling (length (now (work .entry))) (length (now (out .entry)))) ⌝ }
+    ensures out { λ r. ⌜ now (out .exit) ≡ written (compileAnswer lim (now (book .entry)) end ceiling (length (now (work .entry))) (length (now (out .entry)))) (now (out .entry)) ⌝ }
+    ensures work { λ r. ⌜ now (work .exit) ≡ worked lim ceiling (tested lim (now (book .entry)) end ceiling (length (now (work .entry)))) (now (work .entry)) ⌝ }
 {
-    compile_ending(book, limits::NO_END, ceiling, work, out)
+    if limits::in_range(lim) {
+        return compile_within(book, end, ceiling, work, out, lim);
+    }
+    CompileAnswer::Refused(Refusal::Bare { number: 17 })
+}
+
+// The same with no end tag.
+pub fn compile(
+    book: &[u8],
+    ceiling: usize,
+    work: &mut [u16],
+    out: &mut [u8],
+    lim: Limits,
+) -> CompileAnswer
+    ensures answer { λ r. ⌜ compileOutcome r ≡ longOf (compileAnswer lim (now (book .entry)) no-end ceiling (length (now (work .entry))) (length (now (out .entry)))) ⌝ }
+    ensures out { λ r. ⌜ now (out .exit) ≡ written (compileAnswer lim (now (book .entry)) no-end ceiling (length (now (work .entry))) (length (now (out .entry)))) (now (out .entry)) ⌝ }
+    ensures work { λ r. ⌜ now (work .exit) ≡ worked lim ceiling (tested lim (now (book .entry)) no-end ceiling (length (now (work .entry)))) (now (work .entry)) ⌝ }
+{
+    compile_ending(book, limits::NO_END, ceiling, work, out, lim)
 }

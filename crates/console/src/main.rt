@@ -5,6 +5,7 @@ use answers::Refusal;
 use answers::RunAnswer;
 use books::BookAnswer;
 use libc::STDIN_FILENO;
+use limits::STANDARD;
 use printing::put;
 use printing::put_byte;
 use printing::put_number;
@@ -78,7 +79,7 @@ fn zeros() -> [u8; 70000]
 }
 
 fn run_into(book: &[u8], sentence: &[u8], out: &mut [u8]) {
-    put_run(tagger::run_book(book, sentence, out));
+    put_run(tagger::run_book(book, sentence, out, STANDARD));
     put(b" :");
     put_bytes(out);
 }
@@ -104,7 +105,7 @@ fn answer_short(book: &[u8], sentence: &[u8])
 
 fn answer_long(book: &[u8], sentence: &[u8]) {
     let mut out = filled();
-    put_run(tagger::run_book(book, sentence, &mut out));
+    put_run(tagger::run_book(book, sentence, &mut out, STANDARD));
 }
 
 fn answer_sheet<'a>(sentence: &'a [u8], result: &'a [u8]) {
@@ -137,7 +138,7 @@ fn answer<'a>(call: Call, a: &'a [u8], b: &'a [u8])
     requires { ⌜ (length (now a) ≤ 4096) × (length (now b) ≤ 70000) ⌝ }
 {
     match call {
-        Call::Book => put_book(reader::read_book(a)),
+        Call::Book => put_book(reader::read_book(a, STANDARD)),
         Call::Run => answer_run(a, b, b.len() + 2),
         Call::Short => answer_short(a, b),
         Call::Long => answer_long(a, b),

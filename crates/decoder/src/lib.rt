@@ -2,6 +2,7 @@
 use answers::Refusal;
 use indexing::read_rows;
 use leveling::level_rows;
+use limits::Limits;
 use steps::Reached;
 use steps::count_of;
 use steps::number_at;
@@ -9,7 +10,7 @@ use words::wide;
 ghost use mathlib.Core.Path.{_≡_};
 ghost use Prim.Native.Nat.{_+_, _*_, _≤_};
 ghost use lib.ListN.{length};
-ghost use Rattle.limits.specs.Limits.{most-tags, most-states};
+ghost use Rattle.limits.specs.Limits.{most-tags, most-states, InRange};
 ghost use Rattle.decoder.specs.Index.{Head, HeadRead, RowsRead, LoadedIf};
 
 // The most entries of an index.
@@ -22,9 +23,9 @@ pub enum TableAnswer {
 }
 
 // What is left when the states are read: the last byte, and what the states hold.
-fn load_end(table: &[u8], end: usize, k: usize, s: usize, index: &[u64]) -> bool
-    requires { ⌜ RowsRead (now table) k s (now index) end ⌝ }
-    ensures { λ r. ⌜ LoadedIf r (now (table .entry)) k (now (index .entry)) ⌝ }
+fn load_end(table: &[u8], end: usize, k: usize, s: usize, index: &[u64], lim: Limits) -> bool
+    requires { ⌜ RowsRead lim (now table) k s (now index) end ⌝ }
+    ensures { λ r. ⌜ LoadedIf r lim (now (table .entry)) k (now (index .entry)) ⌝ }
 {
     if table.len() - end != 1 {
         return false;
@@ -39,20 +40,21 @@ fn load_end(table: &[u8], end: usize, k: usize, s: usize, index: &[u64]) -> bool
 }
 
 // Reads the bytes after the head and fills the index: whether they are those of a valid table.
-pub fn load(table: &[u8], k: usize, s: usize, index: &mut [u64]) -> bool
-    requires { ⌜ Head (now table) k s × (s * (k + 1) ≤ length (now index)) ⌝ }
-    ensures { λ r. ⌜ LoadedIf r (now (table .entry)) k (now (index .exit)) ⌝ }
+pub fn load(table: &[u8], k: usize, s: usize, index: &mut [u64], lim: Limits) -> bool
+    requires { ⌜ Head lim (now table) k s × (s * (k + 1) ≤ length (now index)) ⌝ }
+    ensures { λ r. ⌜ LoadedIf r lim (now (table .entry)) k (now (index .exit)) ⌝ }
 {
-    let got = read_rows(table, k, s, index);
+    let got = read_rows(table, k, s, index, limits::most_held(lim));
     let Reached::To(end) = got else {
         return false;
     };
-    load_end(table, end, k, s, index)
+    load_end(table, end, k, s, index, lim)
 }
 
-// The head, a table's first four bytes. No valid table has as many bytes as are refused here.
-pub fn read_head(table: &[u8]) -> TableAnswer
-    ensures { λ r. ⌜ HeadRead (now (table .entry)) r ⌝ }
+// The head of limits in their ranges. No valid table has as many bytes as are refused here.
+fn read_ranged(table: &[u8], lim: Limits) -> TableAnswer
+    requires { ⌜ InRange lim ⌝ }
+    ensures { λ r. ⌜ HeadRead lim (now (table .entry)) r ⌝ }
 {
     if table.len() < 4 {
         return TableAnswer::Refused(Refusal::Bare { number: 12 });
@@ -68,7 +70,7 @@ pub fn read_head(table: &[u8]) -> TableAnswer
     if k < limits::FEWEST_TAGS {
         return TableAnswer::Refused(Refusal::Bare { number: 12 });
     }
-    if limits::TAGS < k {
+    if lim.tags < k {
         return TableAnswer::Refused(Refusal::Bare { number: 12 });
     }
     if s < 1 {
@@ -78,6 +80,16 @@ pub fn read_head(table: &[u8]) -> TableAnswer
         return TableAnswer::Refused(Refusal::Bare { number: 12 });
     }
     TableAnswer::Table { tags: k, states: s }
+}
+
+// The head, a table's first four bytes: 17 for limits out of range, then 12.
+pub fn read_head(table: &[u8], lim: Limits) -> TableAnswer
+    ensures { λ r. ⌜ HeadRead lim (now (table .entry)) r ⌝ }
+{
+    if !limits::in_range(lim) {
+        return TableAnswer::Refused(Refusal::Bare { number: 17 });
+    }
+    read_ranged(table, lim)
 }
 
 // The entries that a table needs.

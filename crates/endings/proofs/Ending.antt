@@ -16,7 +16,7 @@ use Rattle.cascades.specs.Value.{ruleOf, Formed}
 use Rattle.cascades.specs.declared.Rule.{Rule as Value}
 use Rattle.cascades.specs.Ending.{before, misused, someMisused, badEnd}
 use Rattle.cascades.proofs.Ending.{misused-outside}
-use Rattle.limits.specs.Limits.{longest-pattern, most-rules, most-tags, no-end}
+use Rattle.limits.specs.Limits.{most-rules, most-tags, no-end}
 use Rattle.books.specs.Arrays.{Arrays, Shaped, RulesHeld, placeAt, ruleAt, rulesDown, rulesOf, cascadeOf}
 use Rattle.books.proofs.Arrays.{pattern-long}
 use Rattle.endings.specs.Usable.{Usable}
@@ -139,7 +139,7 @@ module _ (c : Cascade) where
     pub bad-inside : c .end < c .tags → someMisused (c .end) (c .rules) ≡ badEnd c
     bad-inside g = ap₂ tests (sym (ne-eqb (c .end) no-end h)) (sym (lt-leb (c .tags) (c .end) g))
 
-pub usable : (k m : ℕ) (a : Arrays) → RulesHeld k m a → Usable m a
+pub usable : {l : ℕ} (k m : ℕ) (a : Arrays) → RulesHeld l k m a → Usable m a
 usable k m a h =
     record {
       shaped = h .shaped;
@@ -149,11 +149,11 @@ usable k m a h =
     }
 
 -- a rule of a book that can be used with the end tag
-pub rule-used : (k m e : ℕ) (a : Arrays) → k ≤ most-tags → RulesHeld k m a → badEnd (ending e (cascadeOf k a m)) ≡ false
+pub rule-used : {l : ℕ} (k m e : ℕ) (a : Arrays) → k ≤ most-tags → RulesHeld l k m a → badEnd (ending e (cascadeOf k a m)) ≡ false
     → (i : ℕ) → i < m → misused e (ruleAt a i) ≡ false
-rule-used k m e a few held fits i l = by (ℕ-discrete e no-end) (decLt e k)
+rule-used {l} k m e a few held fits i h = by (ℕ-discrete e no-end) (decLt e k)
   where
     by : Dec (e ≡ no-end) → Dec (e < k) → misused e (ruleAt a i) ≡ false
-    by (yes f) d = misused-outside longest-pattern k e (omega arith) (ruleAt a i) (held .valid i l)
-    by (no n) (yes b) = none-misused e a m i (bad-inside (ending e (cascadeOf k a m)) n b ∙ fits) l
+    by (yes f) d = misused-outside l k e (omega arith) (ruleAt a i) (held .valid i h)
+    by (no n) (yes b) = none-misused e a m i (bad-inside (ending e (cascadeOf k a m)) n b ∙ fits) h
     by (no n) (no b) = let z : _≡_ {A = ℕ} 0 1 = cc (bad-outside (ending e (cascadeOf k a m)) n (omega arith), fits) in absurd (omega arith)

@@ -11,6 +11,8 @@ use Rattle.words.specs.Decides.{Decides}
 use Rattle.transducers.specs.Table.{Step, Table, no-step, row, step}
 use Rattle.steps.specs.Entry.{baseOf, countOf, tagOf}
 use Rattle.decoder.specs.Index.{Loaded}
+use Rattle.tables.proofs.Outcomes.{read-few}
+use Rattle.limits.specs.declared.Limits.{Limits}
 use Rattle.loaded.specs.Numbers.{none, only, stays, rests, firstResting}
 use Rattle.entries.specs.State.{Stays, RestsIn}
 use Rattle.entries.proofs.Numbers.{base-state}
@@ -70,7 +72,7 @@ stay-decided e base a b c w be b-is ce c-is we =
 
 -- ---- of a table that is loaded
 
-module _ (bs ix : List ℕ) (k : ℕ) (l : Loaded bs k ix) where
+module _ {lim : Limits} (bs ix : List ℕ) (k : ℕ) (l : Loaded lim bs k ix) where
   abbrev t : Table
   t = l .table
 
@@ -80,7 +82,7 @@ module _ (bs ix : List ℕ) (k : ℕ) (l : Loaded bs k ix) where
 
     module _ (a : ℕ) (ha : a < k) where
       out-long : length (step t q a .output) < 0xff
-      out-long = omega (arith, l .valid .balanced q a h ha, l .valid .held q h)
+      out-long = omega (arith, l .valid .balanced q a h ha, l .valid .held q h, read-few lim bs _ (l .decodes))
 
       stay-so : Stays (getD ix (q * (k + 1) + 1 + a) 0) (q * (k + 1) + 1) a → (step t q a .next ≡ q) × (only (0 + a) (step t q a .output) ≡ true)
       stay-so s =

@@ -9,6 +9,7 @@ ghost use Prim.Native.Nat.{ℕ, _+_, _*_, _≤_, _<_};
 ghost use mathlib.Core.List.{List};
 ghost use lib.ListN.{length};
 ghost use lib.Seq.{sets};
+ghost use Rattle.limits.specs.declared.Limits.{Limits};
 ghost use Rattle.words.specs.Decides.{Decides};
 ghost use Rattle.steps.specs.Entry.{TagsAt};
 ghost use Rattle.decoder.specs.Index.{Loaded};
@@ -49,7 +50,7 @@ fn rests(index: &[u64], k: usize, cell: usize) -> bool
 // Where the entries of the steps of the first state that rests begin; if none does, where those of one more state would.
 pub fn first_resting(index: &[u64], k: usize, s: usize) -> usize
     requires { ⌜ s * (k + 1) ≤ length (now index) ⌝ }
-    ensures { λ r. ⌜ ((bs : List ℕ) (l : Loaded bs k (now (index .entry))) → length (l .table) ≡ s → r ≡ firstResting (l .table) s 0 * (k + 1) + 1) ⌝ }
+    ensures { λ r. ⌜ ((lim : Limits) (bs : List ℕ) (l : Loaded lim bs k (now (index .entry))) → length (l .table) ≡ s → r ≡ firstResting (l .table) s 0 * (k + 1) + 1) ⌝ }
 {
     let mut q = 0;
     let mut cell = 0;

@@ -1,5 +1,6 @@
 // Compiles the starter book (document 02, W7) and writes its table as source text: crates/starter/src/table.rt.
 use answers::CompileAnswer;
+use limits::STANDARD;
 use printing::put;
 use printing::put_byte;
 use printing::put_number;
@@ -54,6 +55,7 @@ fn main() {
         CEILING,
         &mut work,
         &mut out,
+        STANDARD,
     ) {
         CompileAnswer::Table(_) => put_source(&out),
         CompileAnswer::Refused(refusal) => put_refusal(refusal),

@@ -6,7 +6,6 @@ use mathlib.Core.List.{List, [], _∷_}
 use lib.ListN.{length, drop, getD, length-drop, length-append}
 use lib.Seq.{drop-drop}
 use borrow.Author.Tests.{eq-eqb, ne-eqb, lt-leb, le-leb}
-use Rattle.limits.specs.Limits.{most-held}
 use Rattle.transducers.specs.Table.{Row, no-step}
 use Rattle.tables.specs.Bytes.{tagged, joined, stepBytes, rowBytes}
 use Rattle.tables.specs.Decode.{word, malformed, many, readStep, readRow}
@@ -37,11 +36,11 @@ row-kept k q i x y bs r h f c =
     }
 
 -- a state at a place
-module _ (k s : ℕ) (bs : List ℕ) (at : ℕ) where
-  pub row-short : length bs - at < 2 → readRow k s (drop at bs) ≡ malformed
+module _ (most k s : ℕ) (bs : List ℕ) (at : ℕ) where
+  pub row-short : length bs - at < 2 → readRow most k s (drop at bs) ≡ malformed
   row-short h = short (drop at bs) (rw length-drop h)
     where
-      short : (l : List ℕ) → length l < 2 → readRow k s l ≡ malformed
+      short : (l : List ℕ) → length l < 2 → readRow most k s l ≡ malformed
       short [] h = refl
       short (x ∷ []) h = refl
       short (x ∷ y ∷ l) h = absurd (omega arith)
@@ -50,29 +49,29 @@ module _ (k s : ℕ) (bs : List ℕ) (at : ℕ) where
     two-bytes : drop at bs ≡ getD bs at 0 ∷ getD bs (at + 1) 0 ∷ drop (at + 2) bs
     two-bytes = drop-two bs at (omega arith)
 
-    other-case : (x n : ℕ) (l : List ℕ) → (x ≡ 0x31 → ⊥) → readRow k s (x ∷ n ∷ l) ≡ malformed
+    other-case : (x n : ℕ) (l : List ℕ) → (x ≡ 0x31 → ⊥) → readRow most k s (x ∷ n ∷ l) ≡ malformed
     other-case x n l e = cc (ne-eqb x 0x31 e)
 
-    pub row-other : (getD bs at 0 ≡ 0x31 → ⊥) → readRow k s (drop at bs) ≡ malformed
+    pub row-other : (getD bs at 0 ≡ 0x31 → ⊥) → readRow most k s (drop at bs) ≡ malformed
     row-other e = rw two-bytes (other-case (getD bs at 0) (getD bs (at + 1) 0) (drop (at + 2) bs) e)
 
-    held-case : (x n : ℕ) (l : List ℕ) → x ≡ 0x31 → most-held < n → readRow k s (x ∷ n ∷ l) ≡ malformed
-    held-case x n l e g = cc (eq-eqb x 0x31 e, lt-leb n most-held g)
+    held-case : (x n : ℕ) (l : List ℕ) → x ≡ 0x31 → most < n → readRow most k s (x ∷ n ∷ l) ≡ malformed
+    held-case x n l e g = cc (eq-eqb x 0x31 e, lt-leb n most g)
 
-    pub row-held : getD bs at 0 ≡ 0x31 → most-held < getD bs (at + 1) 0 → readRow k s (drop at bs) ≡ malformed
+    pub row-held : getD bs at 0 ≡ 0x31 → most < getD bs (at + 1) 0 → readRow most k s (drop at bs) ≡ malformed
     row-held e g = rw two-bytes (held-case (getD bs at 0) (getD bs (at + 1) 0) (drop (at + 2) bs) e g)
 
-    module _ (e : getD bs at 0 ≡ 0x31) (most : getD bs (at + 1) 0 ≤ most-held) where
-      count-case : (x n : ℕ) (l : List ℕ) → x ≡ 0x31 → n ≤ most-held → (length (word 0x32 k l) ≡ n → ⊥) → readRow k s (x ∷ n ∷ l) ≡ malformed
-      count-case x n l e g d = cc (eq-eqb x 0x31 e, le-leb n most-held g, ne-eqb (length (word 0x32 k l)) n d)
+    module _ (e : getD bs at 0 ≡ 0x31) (few : getD bs (at + 1) 0 ≤ most) where
+      count-case : (x n : ℕ) (l : List ℕ) → x ≡ 0x31 → n ≤ most → (length (word 0x32 k l) ≡ n → ⊥) → readRow most k s (x ∷ n ∷ l) ≡ malformed
+      count-case x n l e g d = cc (eq-eqb x 0x31 e, le-leb n most g, ne-eqb (length (word 0x32 k l)) n d)
 
-      pub row-count : (length (word 0x32 k (drop (at + 2) bs)) ≡ getD bs (at + 1) 0 → ⊥) → readRow k s (drop at bs) ≡ malformed
-      row-count d = rw two-bytes (count-case (getD bs at 0) (getD bs (at + 1) 0) (drop (at + 2) bs) e most d)
+      pub row-count : (length (word 0x32 k (drop (at + 2) bs)) ≡ getD bs (at + 1) 0 → ⊥) → readRow most k s (drop at bs) ≡ malformed
+      row-count d = rw two-bytes (count-case (getD bs at 0) (getD bs (at + 1) 0) (drop (at + 2) bs) e few d)
 
-      steps-case : (x n : ℕ) (l : List ℕ) → x ≡ 0x31 → n ≤ most-held → length (word 0x32 k l) ≡ n
+      steps-case : (x n : ℕ) (l : List ℕ) → x ≡ 0x31 → n ≤ most → length (word 0x32 k l) ≡ n
           → many (readStep k s) stepBytes k (drop (length (tagged 0x32 (word 0x32 k l))) l) ≡ malformed
-          → readRow k s (x ∷ n ∷ l) ≡ malformed
-      steps-case x n l e g c m = rw (eq-eqb x 0x31 e, le-leb n most-held g, eq-eqb (length (word 0x32 k l)) n c) (rw m refl)
+          → readRow most k s (x ∷ n ∷ l) ≡ malformed
+      steps-case x n l e g c m = rw (eq-eqb x 0x31 e, le-leb n most g, eq-eqb (length (word 0x32 k l)) n c) (rw m refl)
 
       module _
           (ix : List ℕ)
@@ -85,14 +84,14 @@ module _ (k s : ℕ) (bs : List ℕ) (at : ℕ) where
           behind = rw (ends, ← length-tagged 0x32 (word 0x32 k (drop (at + 2) bs))) (sym (drop-drop (length (tagged 0x32 (word 0x32 k (drop (at + 2) bs)))) (at + 2) bs))
 
           pub row-whole : (r : Reached) → PartRead (many (readStep k s) stepBytes k) (joined stepBytes) (StepEntries k bs ix (cell + 1)) bs end r
-              → PartRead (readRow k s) rowBytes (RowEntries k bs ix cell) bs at r
+              → PartRead (readRow most k s) rowBytes (RowEntries k bs ix cell) bs at r
           row-whole Malformed m =
-              rw two-bytes (steps-case (getD bs at 0) (getD bs (at + 1) 0) (drop (at + 2) bs) e most count (rw behind at m))
+              rw two-bytes (steps-case (getD bs at 0) (getD bs (at + 1) 0) (drop (at + 2) bs) e few count (rw behind at m))
           row-whole (To to) p =
               let w = word 0x32 k (drop (at + 2) bs) in
               record {
                 value = record { final = w; steps = p .value };
-                reads = rw (two-bytes, e) (row-at k s (getD bs (at + 1) 0) (drop (at + 2) bs) (p .value) most count (rw behind at (p .reads)));
+                reads = rw (two-bytes, e) (row-at most k s (getD bs (at + 1) 0) (drop (at + 2) bs) (p .value) few count (rw behind at (p .reads)));
                 end = omega (arith, p .end, ends, length-append (tagged 0x32 w) (joined stepBytes (p .value)), length-tagged 0x32 w);
                 inside = p .inside;
                 holds = record { final = final; steps = p .holds };

@@ -37,9 +37,18 @@ fn read_steps(
     Reached::To(to)
 }
 
-fn read_row(table: &[u8], at: usize, k: usize, s: usize, index: &mut [u64], cell: usize) -> Reached
+// A state that holds at most `most` tags, with its entries from `cell`.
+fn read_row(
+    table: &[u8],
+    at: usize,
+    k: usize,
+    s: usize,
+    index: &mut [u64],
+    cell: usize,
+    most: usize,
+) -> Reached
     requires { ⌜ Asked (now table) at k s × (cell + k < length (now index)) ⌝ }
-    ensures read { λ r. ⌜ PartRead (readRow k s) rowBytes (RowEntries k (now (table .entry)) (now (index .exit)) cell) (now (table .entry)) at r ⌝ }
+    ensures read { λ r. ⌜ PartRead (readRow most k s) rowBytes (RowEntries k (now (table .entry)) (now (index .exit)) cell) (now (table .entry)) at r ⌝ }
     ensures kept { λ r. ⌜ SameBelow cell (now (index .entry)) (now (index .exit)) ⌝ }
 {
     if table.len() - at < 2 {
@@ -49,7 +58,7 @@ fn read_row(table: &[u8], at: usize, k: usize, s: usize, index: &mut [u64], cell
         return Reached::Malformed;
     }
     let held = wide(table[at + 1]);
-    if limits::HELD < held {
+    if most < held {
         return Reached::Malformed;
     }
     let from = at + 2;
@@ -62,15 +71,15 @@ fn read_row(table: &[u8], at: usize, k: usize, s: usize, index: &mut [u64], cell
 }
 
 // The s states after the head.
-pub fn read_rows(table: &[u8], k: usize, s: usize, index: &mut [u64]) -> Reached
+pub fn read_rows(table: &[u8], k: usize, s: usize, index: &mut [u64], most: usize) -> Reached
     requires { ⌜ Asked (now table) 4 k s × (s * (k + 1) ≤ length (now index)) ⌝ }
-    ensures { λ r. ⌜ PartRead (many (readRow k s) rowBytes s) (joined rowBytes) (TableEntries k s (now (table .entry)) (now (index .exit))) (now (table .entry)) 4 r ⌝ }
+    ensures { λ r. ⌜ PartRead (many (readRow most k s) rowBytes s) (joined rowBytes) (TableEntries k s (now (table .entry)) (now (index .exit))) (now (table .entry)) 4 r ⌝ }
 {
     let mut to = 4;
     let mut q = 0;
     let mut cell = 0;
     while q < s {
-        let got = read_row(table, to, k, s, index, cell);
+        let got = read_row(table, to, k, s, index, cell, most);
         let Reached::To(end) = got else {
             return got;
         };

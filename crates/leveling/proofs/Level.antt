@@ -15,9 +15,9 @@ use Rattle.steps.proofs.Places.{row-inside}
 use Rattle.tables.proofs.Theorem.{Balanced, RowBalanced, rows-balanced, balanced-rows}
 
 -- a table whose states were read, with its index
-module _ (k s : ℕ) (bs ix : List ℕ) (t : Table) (states : length t ≡ s) (good : Every (GoodRow k s) t) (cells : TableEntries k s bs ix t) where
-  row-good : (q : ℕ) → q < s → GoodRow k s (row t q)
-  row-good q h = every-at (GoodRow k s) t no-row q good (omega arith)
+module _ (most : ℕ) (few : most < 0xfe) (k s : ℕ) (bs ix : List ℕ) (t : Table) (states : length t ≡ s) (good : Every (GoodRow most k s) t) (cells : TableEntries k s bs ix t) where
+  row-good : (q : ℕ) → q < s → GoodRow most k s (row t q)
+  row-good q h = every-at (GoodRow most k s) t no-row q good (omega arith)
 
   step-good : (q a : ℕ) → q < s → a < k → GoodStep k s (step t q a)
   step-good q a h g = every-at (GoodStep k s) (row t q .steps) no-step a (row-good q h .steps) (omega (arith, row-good q h .whole))

@@ -1,6 +1,26 @@
--- Document 01, "Bounds": "K 2 to 48; at most 16 rules; sentence at most 65,535 tags; ceiling N of states 1 to 256", "1 to 6 tags" in a
--- pattern, "at most 80" held tags. src/lib.rt has the bounds for code.
-use Prim.Native.Nat.{ℕ, _+_, _*_}
+-- The bounds of document 01, and the limits that a call is given (document 02, W8). src/lib.rt has them for code.
+use Prim.Native.Nat.{ℕ, _-_, _*_, _≤_}
+use mathlib.Core.Bool.{Bool, _&&_}
+use lib.Dec.{leb}
+use Rattle.limits.specs.declared.Limits.{Limits}
+
+-- "sentence at most 65,535 tags; ceiling N of states 1 to 256" (document 01, "Bounds")
+abbrev pub longest-sentence : ℕ
+longest-sentence = 65535
+
+abbrev pub most-states : ℕ
+most-states = 256
+
+-- "an end tag, or 255 for none" (document 02, W1): no tag is 255
+abbrev pub no-end : ℕ
+no-end = 255
+
+-- "one record that every reader, run and compiler takes: most tags in a pattern (L, 1 to 8), most rules (1 to 16), greatest K (2 to 48)"
+abbrev pub longest-pattern : ℕ
+longest-pattern = 8
+
+abbrev pub most-rules : ℕ
+most-rules = 16
 
 abbrev pub fewest-tags : ℕ
 fewest-tags = 2
@@ -8,32 +28,27 @@ fewest-tags = 2
 abbrev pub most-tags : ℕ
 most-tags = 48
 
-abbrev pub most-rules : ℕ
-most-rules = 16
+abbrev pub limitsOf : ℕ → ℕ → ℕ → Limits
+limitsOf pattern rules tags = record { pattern = pattern; rules = rules; tags = tags }
 
-abbrev pub longest-pattern : ℕ
-longest-pattern = 6
+pub record InRange (lim : Limits) : Type 0 where
+  pub some-pattern : 1 ≤ lim .pattern
+  pub short-pattern : lim .pattern ≤ longest-pattern
+  pub some-rules : 1 ≤ lim .rules
+  pub few-rules : lim .rules ≤ most-rules
+  pub some-tags : fewest-tags ≤ lim .tags
+  pub few-tags : lim .tags ≤ most-tags
 
-abbrev pub longest-sentence : ℕ
-longest-sentence = 65535
+abbrev pub between : ℕ → ℕ → ℕ → Bool
+between least most n = leb least n && leb n most
 
--- "an end tag, or 255 for none" (document 02, W1): no tag is 255
-abbrev pub no-end : ℕ
-no-end = 255
+abbrev pub inRange : Limits → Bool
+inRange lim = between 1 longest-pattern (lim .pattern) && (between 1 most-rules (lim .rules) && between fewest-tags most-tags (lim .tags))
 
-abbrev pub most-states : ℕ
-most-states = 256
+-- "The old numbers are L = 6, 16 and 48"
+abbrev pub standard : Limits
+standard = limitsOf 6 16 48
 
-abbrev pub most-held : ℕ
-most-held = 80
-
--- "With m rules the compiler's work slice of 16-bit numbers has at least 16 × N × (K + 1) × (5 × m + 8) entries": rows of K + 1 cells of
--- that depth
-abbrev pub work-rows : ℕ → ℕ
-work-rows n = 16 * n
-
-abbrev pub work-depth : ℕ → ℕ
-work-depth m = 5 * m + 8
-
-abbrev pub work-entries : ℕ → ℕ → ℕ → ℕ
-work-entries n k m = work-rows n * (k + 1) * work-depth m
+-- "a state holds at most (L − 1) × 16 tags"
+abbrev pub most-held : Limits → ℕ
+most-held lim = (lim .pattern - 1) * most-rules

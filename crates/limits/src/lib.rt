@@ -1,15 +1,6 @@
-// The bounds of document 01, for code. specs/Limits.antt has them for definitions.
-
-// The fewest and the most tags of a book or a table.
-pub const FEWEST_TAGS: usize = 2;
-
-pub const TAGS: usize = 48;
-
-// The most tags in a pattern.
-pub const PATTERN: usize = 6;
-
-// The most rules in a book.
-pub const RULES: usize = 16;
+// The bounds of document 01, and the limits that a call is given (document 02, W8). specs/Limits.antt has them for definitions.
+ghost use mathlib.Core.Path.{_≡_};
+ghost use Rattle.limits.specs.Limits.{limitsOf, InRange, between, inRange, most-held};
 
 // The most tags in a sentence that is run.
 pub const SENTENCE: usize = 65535;
@@ -20,12 +11,70 @@ pub const NO_END: u8 = 255;
 // The most states of a table.
 pub const STATES: usize = 256;
 
-// The most tags that a state of a table holds back.
-pub const HELD: usize = 80;
+// The most tags in a pattern, the most rules in a book, and the most tags of a book or a table.
+pub struct Limits {
+    pub pattern: usize,
+    pub rules: usize,
+    pub tags: usize,
+}
 
-// The work slice: rows for each state of the ceiling; the entries of a cell for each rule, and the ones that every cell has.
-pub const STATE_ROWS: usize = 16;
+// The limits of document 01.
+pub const STANDARD: Limits = Limits {
+    pattern: 6,
+    rules: 16,
+    tags: 48,
+};
 
-pub const RULE_DEPTH: usize = 5;
+// The greatest of each.
+pub const PATTERN: usize = 8;
 
+pub const RULES: usize = 16;
+
+pub const TAGS: usize = 48;
+
+// The fewest tags of a book or a table.
+pub const FEWEST_TAGS: usize = 2;
+
+// The entries of a cell of the work slice that are there without a rule.
 pub const LEAST_DEPTH: usize = 8;
+
+fn between(least: usize, most: usize, n: usize) -> bool
+    ensures { λ r. ⌜ r ≡ between least most n ⌝ }
+{
+    if n < least {
+        return false;
+    }
+    n <= most
+}
+
+// Whether each limit is in its range.
+pub fn in_range(lim: Limits) -> bool
+    ensures { λ r. ⌜ r ≡ inRange lim ⌝ }
+{
+    if !between(1, PATTERN, lim.pattern) {
+        return false;
+    }
+    if !between(1, RULES, lim.rules) {
+        return false;
+    }
+    between(FEWEST_TAGS, TAGS, lim.tags)
+}
+
+// The most tags that a state of a table holds back.
+pub fn most_held(lim: Limits) -> usize
+    requires { ⌜ InRange lim ⌝ }
+    ensures { λ r. ⌜ r ≡ most-held lim ⌝ }
+{
+    (lim.pattern - 1) * RULES
+}
+
+// The limits from a host's numbers.
+pub fn limits_of(pattern: u64, rules: u64, tags: u64) -> Limits
+    ensures { λ r. ⌜ r ≡ limitsOf pattern rules tags ⌝ }
+{
+    Limits {
+        pattern: pattern as usize,
+        rules: rules as usize,
+        tags: tags as usize,
+    }
+}

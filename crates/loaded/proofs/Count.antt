@@ -7,6 +7,7 @@ use mathlib.Core.Bool.{Bool, true, false}
 use mathlib.Core.List.{List, [], _∷_}
 use lib.Dec.{leb}
 use lib.ListN.{length, getD, length-append}
+use Rattle.limits.specs.declared.Limits.{Limits}
 use Rattle.transducers.specs.Table.{Step, Row, Table, no-row}
 use Rattle.tables.specs.Bytes.{tagged, joined, stepBytes, rowBytes, encode}
 use Rattle.tables.specs.Valid.{ValidTable}
@@ -58,7 +59,7 @@ rows-few k (x ∷ t) whole =
     )
 
 -- as many numbers as the table has bytes are always enough
-pub numbers-few : (k : ℕ) (t : Table) → ValidTable k t → length (numbers k t) ≤ length (encode k t)
+pub numbers-few : {lim : Limits} (k : ℕ) (t : Table) → ValidTable lim k t → length (numbers k t) ≤ length (encode k t)
 numbers-few k t v =
     let rested = firstResting t (length t) 0 in
     let rows = rowsNumbers k rested (rowAt k (length t)) t in

@@ -1,5 +1,5 @@
 -- The way through the numbers of a table is the run of its transducer, whatever stands behind them.
-use Prim.Native.Nat.{ℕ, zero, suc, _+_, _*_, _<_}
+use Prim.Native.Nat.{ℕ, zero, suc, _+_, _*_, _<_, _≤_}
 use native.Mathlib.Omega.{arith}
 use native.Mathlib.Nat.{mul-le-mul}
 use mathlib.Core.Path.{_≡_, refl, sym, ap, ap₂, _∙_, subst}
@@ -8,7 +8,9 @@ use mathlib.Core.List.{List, [], _∷_, _++_}
 use borrow.Author.Tests.{eqb-true, eq-eqb, ne-eqb, lt-ltb, le-leb, ltb-true}
 use lib.Dec.{eqb, leb, ltb}
 use lib.ListN.{length, getD}
-use Rattle.limits.specs.Limits.{fewest-tags, most-tags, most-states, longest-sentence}
+use Rattle.limits.specs.Limits.{fewest-tags, most-tags, most-states, longest-sentence, InRange}
+use Rattle.limits.specs.declared.Limits.{Limits}
+use Rattle.limits.proofs.Range.{held-few, within-is}
 use Rattle.words.specs.Word.{Below}
 use Rattle.words.proofs.Word.{below-mono}
 use Rattle.answers.specs.Outcome.{Outcome, result, refused, andThen, provided}
@@ -48,7 +50,10 @@ stays-at q (s ∷ ss) b (suc a) e h =
     let z : suc b + a ≡ b + suc a = omega arith in
     (more .0, more .1 ∙ ap (λ (i : ℕ). i ∷ []) z)
 
-module _ (k : ℕ) (t : Table) (v : ValidTable k t) where
+module _ (lim : Limits) (ranged : InRange lim) (k : ℕ) (t : Table) (v : ValidTable lim k t) where
+  few : k ≤ most-tags
+  few = omega (arith, v .tags-most, ranged .few-tags)
+
   rests-puts : (q : ℕ) → q < length t → rests t q ≡ true → (w : List ℕ) → Below k w → puts (shape t) q w ≡ w
   rests-puts q h e [] b = none-is (row t q .final) (both (none (row t q .final)) (stays q 0 (row t q .steps)) e .0)
   rests-puts q h e (a ∷ w) b =
@@ -71,7 +76,7 @@ module _ (k : ℕ) (t : Table) (v : ValidTable k t) where
   -- no row of a valid table begins where one rests
   row-place : (q : ℕ) → q < length t → rowAt k q ≡ resting → ⊥
   row-place q h e =
-      omega (arith, e, v .states-most, v .tags-most, mul-le-mul {n₁ = q} {m₁ = rowSize k} {n₂ = most-states} {m₂ = rowSize most-tags} (omega (arith, v .states-most)) (omega (arith, v .tags-most)))
+      omega (arith, e, v .states-most, few, mul-le-mul {n₁ = q} {m₁ = rowSize k} {n₂ = most-states} {m₂ = rowSize most-tags} (omega (arith, v .states-most)) (omega (arith, few)))
 
   -- ---- the way
 
@@ -104,7 +109,7 @@ module _ (k : ℕ) (t : Table) (v : ValidTable k t) where
   -- ---- the words of a valid table can be noted
 
   wide : (w : List ℕ) → Below k w → Below 0x100 w
-  wide w b = below-mono k 0x100 w (omega (arith, v .tags-most)) b
+  wide w b = below-mono k 0x100 w (omega (arith, few)) b
 
   noted-steps : (ss : List Step) → ((a : ℕ) → a < length ss → Noted (getD ss a no-step .output)) → NotedSteps ss
   noted-steps [] all = tt
@@ -117,12 +122,12 @@ module _ (k : ℕ) (t : Table) (v : ValidTable k t) where
   noted : NotedRows t
   noted =
       noted-rows t λ q h. (
-        record { small = wide (row t q .final) (v .final-below q h); short = omega (arith, v .held q h) },
+        record { small = wide (row t q .final) (v .final-below q h); short = omega (arith, v .held q h, held-few lim ranged) },
         noted-steps (row t q .steps) λ a ha.
             let lt : a < k = omega (arith, ha, v .whole q h) in
             record {
               small = wide (step t q a .output) (v .output-below q a h lt);
-              short = omega (arith, v .balanced q a h lt, v .held q h);
+              short = omega (arith, v .balanced q a h lt, v .held q h, held-few lim ranged);
             },
       )
 
@@ -149,9 +154,10 @@ module _ (k : ℕ) (t : Table) (v : ValidTable k t) where
       refl
 
   -- what is written for a table, with anything behind it, runs as that table
-  pub loaded-runs : (tail s : List ℕ) (room : ℕ) → loadedRun (numbers k t ++ tail) s room ≡ run k s room (puts (shape t) 0 s)
+  pub loaded-runs : (tail s : List ℕ) (room : ℕ) → loadedRun lim (numbers k t ++ tail) s room ≡ run k s room (puts (shape t) 0 s)
   loaded-runs tail s room =
-      rw (le-leb fewest-tags k (v .tags-least), le-leb k most-tags (v .tags-most))
+      within-is lim _ ranged
+      ∙ rw (le-leb fewest-tags k (v .tags-least), le-leb k (lim .tags) (v .tags-most))
       (then-same (admitted k s) _ _ λ e.
       let b = highest-below k s (ltb-true (highest s) k (admitted-tags s (leb (length s) longest-sentence) (ltb (highest s) k) e)) in
       ap (provided 11 (leb (length s) room)) (ap (λ (o : Outcome (List ℕ)). andThen o (sound k s)) (walks tail s b) ∙ sound-made s b))

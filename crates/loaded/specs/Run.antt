@@ -4,13 +4,15 @@ use mathlib.Core.Bool.{true, false, _&&_}
 use mathlib.Core.List.{List, [], _∷_, _++_, map}
 use lib.Dec.{eqb, leb, ltb}
 use lib.ListN.{length, take, drop, getD}
-use Rattle.limits.specs.Limits.{fewest-tags, most-tags}
+use Rattle.limits.specs.Limits.{fewest-tags}
+use Rattle.limits.specs.Within.{within}
+use Rattle.limits.specs.declared.Limits.{Limits}
 use Rattle.answers.specs.Outcome.{Outcome, result, andThen, provided}
 use Rattle.answers.specs.Slice.{fitting}
 use Rattle.answers.specs.Answer.{Filled}
 use Rattle.answers.specs.declared.WriteAnswer.{WriteAnswer}
 use Rattle.sentences.specs.Run.{highest, admitted}
-use Rattle.tables.specs.Decode.{decode}
+use Rattle.tables.specs.Decode.{decodeWithin}
 use Rattle.loaded.specs.Numbers.{rowSize, resting, numbers}
 
 abbrev pub byteOf : ℕ → ℕ
@@ -41,18 +43,19 @@ way ns k p (a ∷ w) =
 abbrev pub sound : ℕ → List ℕ → List ℕ → Outcome (List ℕ)
 sound k sentence made = provided 12 (eqb (length made) (length sentence)) (provided 12 (ltb (highest made) k) (result made))
 
--- 12 for the head, then 13, 4 and 11, then 12 for the way
-abbrev pub loadedRun : List ℕ → List ℕ → ℕ → Outcome (List ℕ)
-loadedRun ns sentence room =
+-- 17, 12 for the head, then 13, 4 and 11, then 12 for the way
+abbrev pub loadedRun : Limits → List ℕ → List ℕ → ℕ → Outcome (List ℕ)
+loadedRun lim ns sentence room =
     let k = getD ns 0 0 in
-    provided 12 (leb fewest-tags k && leb k most-tags)
+    within lim
+    (provided 12 (leb fewest-tags k && leb k (lim .tags))
     (andThen (admitted k sentence)
-    (λ x. provided 11 (leb (length sentence) room) (andThen (way ns k 1 sentence) (sound k sentence))))
+    (λ x. provided 11 (leb (length sentence) room) (andThen (way ns k 1 sentence) (sound k sentence)))))
 
--- what loading a table gives: its numbers, 12, or 11 if the slice has not so many
-abbrev pub loadAnswer : List ℕ → ℕ → Outcome (List ℕ)
-loadAnswer bytes room = andThen (decode bytes) (λ d. fitting room (numbers (d .tags) (d .table)))
+-- what loading a table gives: its numbers, 17, 12, or 11 if the slice has not so many
+abbrev pub loadAnswer : Limits → List ℕ → ℕ → Outcome (List ℕ)
+loadAnswer lim bytes room = andThen (decodeWithin lim bytes) (λ d. fitting room (numbers (d .tags) (d .table)))
 
 -- loading has ended: the answer, and the numbers at exit
-abbrev pub LoadRan : List ℕ → List ℕ → List ℕ → WriteAnswer → Type 0
-LoadRan bytes before after answer = Filled (loadAnswer bytes (length before)) before after answer
+abbrev pub LoadRan : Limits → List ℕ → List ℕ → List ℕ → WriteAnswer → Type 0
+LoadRan lim bytes before after answer = Filled (loadAnswer lim bytes (length before)) before after answer

@@ -1,4 +1,4 @@
--- The end of loading: 12, 11, or the numbers at the front of the slice.
+-- The end of loading: 17, 12, 11, or the numbers at the front of the slice.
 use Prim.Native.Nat.{ℕ, _+_, _*_, _≤_, _<_}
 use native.Mathlib.Omega.{arith}
 use mathlib.Core.Path.{_≡_, sym, ap, _∙_}
@@ -8,18 +8,23 @@ use borrow.Author.Tests.{le-leb, lt-leb}
 use lib.Dec.{leb}
 use lib.ListN.{length, drop, set, length-append}
 use lib.Seq.{sets, sets-eq}
+use Rattle.limits.specs.Limits.{most-held}
+use Rattle.limits.specs.declared.Limits.{Limits}
 use Rattle.words.specs.Word.{Below}
 use Rattle.words.proofs.Word.{below-drop}
 use Rattle.words.proofs.Regions.{sets-more, sets-sets}
 use Rattle.answers.specs.Outcome.{Outcome, result, refused, nothing, andThen, provided}
 use Rattle.answers.specs.Slice.{fitting}
-use Rattle.answers.specs.Answer.{writeOutcome}
+use Rattle.answers.specs.Answer.{refusal, writeOutcome}
 use Rattle.answers.specs.declared.WriteAnswer.{WriteAnswer}
-use Rattle.answers.specs.declared.WriteAnswer.the-variants.{Written as Load}
+use Rattle.answers.specs.declared.WriteAnswer.the-variants.{Written as Load, Refused}
+use Rattle.answers.specs.declared.Refusal.{Refusal}
+use Rattle.answers.proofs.Outcome.{refusal-then}
+use Rattle.answers.proofs.Slice.{filled-refused}
 use Rattle.transducers.specs.Table.{Table}
 use Rattle.tables.specs.Bytes.{joined, encode}
-use Rattle.tables.specs.Decode.{Decoded, decode, malformed}
-use Rattle.tables.proofs.Theorem.{decoded, table-read}
+use Rattle.tables.specs.Decode.{Decoded, decodeWithin, malformed}
+use Rattle.tables.proofs.Theorem.{decoded-within, table-read}
 use Rattle.decoder.specs.Index.{Head, Loaded, LoadedIf}
 use Rattle.loaded.specs.Numbers.{rowAt, rowBehind, firstResting, rowsNumbers, numbers}
 use Rattle.loaded.specs.Run.{loadAnswer, LoadRan}
@@ -28,25 +33,31 @@ use Rattle.loaded.proofs.Count.{numbers-few}
 use Rattle.entries.specs.State.{Base}
 use Rattle.rows.specs.Parts.{Source, RowsWritten}
 
-pub is-loaded : (bs : List ℕ) (k : ℕ) (ix : List ℕ) (r : Bool) → LoadedIf r bs k ix → r ≡ true → Loaded bs k ix
-is-loaded bs k ix true h e = h
-is-loaded bs k ix false h e = let z : _≡_ {A = ℕ} 0 1 = cc in absurd (omega arith)
+pub is-loaded : (lim : Limits) (bs : List ℕ) (k : ℕ) (ix : List ℕ) (r : Bool) → LoadedIf r lim bs k ix → r ≡ true → Loaded lim bs k ix
+is-loaded lim bs k ix true h e = h
+is-loaded lim bs k ix false h e = let z : _≡_ {A = ℕ} 0 1 = cc in absurd (omega arith)
 
-not-loaded : (bs : List ℕ) (k : ℕ) (ix : List ℕ) (r : Bool) → LoadedIf r bs k ix → r ≡ false → decode bs ≡ malformed
-not-loaded bs k ix false h e = h
-not-loaded bs k ix true h e = let z : _≡_ {A = ℕ} 0 1 = cc in absurd (omega arith)
+not-loaded : (lim : Limits) (bs : List ℕ) (k : ℕ) (ix : List ℕ) (r : Bool) → LoadedIf r lim bs k ix → r ≡ false → decodeWithin lim bs ≡ malformed
+not-loaded lim bs k ix false h e = h
+not-loaded lim bs k ix true h e = let z : _≡_ {A = ℕ} 0 1 = cc in absurd (omega arith)
 
 -- the table is not well formed
-pub load-malformed : (bs : List ℕ) (k : ℕ) (ix : List ℕ) (b : Bool) → LoadedIf b bs k ix → b ≡ false → (before : List ℕ) (r : WriteAnswer)
-    → writeOutcome r ≡ refused 12 nothing → LoadRan bs before before r
-load-malformed bs k ix b h e before r f =
-    let d : decode bs ≡ malformed = not-loaded bs k ix b h e in
+pub load-malformed : (lim : Limits) (bs : List ℕ) (k : ℕ) (ix : List ℕ) (b : Bool) → LoadedIf b lim bs k ix → b ≡ false → (before : List ℕ) (r : WriteAnswer)
+    → writeOutcome r ≡ refused 12 nothing → LoadRan lim bs before before r
+load-malformed lim bs k ix b h e before r f =
+    let d : decodeWithin lim bs ≡ malformed = not-loaded lim bs k ix b h e in
     record { answered = cc (d, f); wrote = cc (d) }
 
-pub head-malformed : (bs before : List ℕ) (r : WriteAnswer) → decode bs ≡ malformed → writeOutcome r ≡ refused 12 nothing → LoadRan bs before before r
-head-malformed bs before r d f = record { answered = cc (d, f); wrote = cc (d) }
+-- the head is refused
+abbrev loading : ℕ → Decoded → Outcome (List ℕ)
+loading room d = fitting room (numbers (d .tags) (d .table))
 
-module _ (bs ix : List ℕ) (k s : ℕ) (head : Head bs k s) (bytes : Below 0x100 bs) (l : Loaded bs k ix) where
+pub head-refused : (lim : Limits) (bs before : List ℕ) (r : Refusal) → decodeWithin lim bs ≡ refusal r → LoadRan lim bs before before (Refused r)
+head-refused lim bs before r d =
+    filled-refused (loadAnswer lim bs (length before)) before r
+    (ap (λ (o : Outcome Decoded). andThen o (loading (length before))) d ∙ refusal-then r (loading (length before)))
+
+module _ {lim : Limits} (bs ix : List ℕ) (k s : ℕ) (head : Head lim bs k s) (bytes : Below 0x100 bs) (l : Loaded lim bs k ix) where
   abbrev t : Table
   t = l .table
 
@@ -60,18 +71,18 @@ module _ (bs ix : List ℕ) (k s : ℕ) (head : Head bs k s) (bytes : Below 0x10
   tags = joined rowBehind t
 
   pub states : length t ≡ s
-  states = table-read k s (drop 4 bs) (record { tags = k; table = t }) (below-drop 0x100 4 bs bytes) (sym (head .left) ∙ l .decodes) .states
+  states = table-read (most-held lim) k s (drop 4 bs) (record { tags = k; table = t }) (below-drop 0x100 4 bs bytes) (sym (head .left) ∙ l .decodes) .states
 
   pub as-encoded : length bs ≡ length (encode k (l .table))
-  as-encoded = ap length (decoded bs (record { tags = k; table = t }) bytes (l .decodes) .1)
+  as-encoded = ap length (decoded-within lim bs (record { tags = k; table = t }) bytes (l .decodes) .1)
 
-  loads : (before : List ℕ) (b : Bool) → leb (length ns) (length before) ≡ b → loadAnswer bs (length before) ≡ provided 11 b (result ns)
+  loads : (before : List ℕ) (b : Bool) → leb (length ns) (length before) ≡ b → loadAnswer lim bs (length before) ≡ provided 11 b (result ns)
   loads before b e =
       ap (λ (o : Outcome Decoded). andThen o (λ d. fitting (length before) (numbers (d .tags) (d .table)))) (l .decodes)
       ∙ ap (λ (x : Bool). provided 11 x (result ns)) e
 
   -- the slice is too short
-  pub load-short : (before : List ℕ) → length before < length ns → (r : WriteAnswer) → writeOutcome r ≡ refused 11 nothing → LoadRan bs before before r
+  pub load-short : (before : List ℕ) → length before < length ns → (r : WriteAnswer) → writeOutcome r ≡ refused 11 nothing → LoadRan lim bs before before r
   load-short before h r f =
       let o = loads before false (lt-leb (length ns) (length before) h) in
       record { answered = cc (o, f); wrote = cc (o) }
@@ -90,8 +101,10 @@ module _ (bs ix : List ℕ) (k s : ℕ) (head : Head bs k s) (bytes : Below 0x10
 
   abbrev pub source : (room : ℕ) → s * (k + 1) ≤ length ix → length ns ≤ room → Source bs ix k s room
   source room entries fits =
-      let two = decoded bs (record { tags = k; table = t }) bytes (l .decodes) in
+      let two = decoded-within lim bs (record { tags = k; table = t }) bytes (l .decodes) in
       record {
+        lim = lim;
+        ranged = head .ranged;
         table = t;
         valid = l .valid;
         cells = l .cells;
@@ -118,7 +131,7 @@ module _ (bs ix : List ℕ) (k s : ℕ) (head : Head bs k s) (bytes : Below 0x10
 
   -- the numbers have been written
   pub load-whole : (before after : List ℕ) (rested to : ℕ) → length ns ≤ length before → Base k (firstResting t s 0) rested
-      → RowsWritten t k s rested (set before 0 k) after to → LoadRan bs before after (Load to)
+      → RowsWritten t k s rested (set before 0 k) after to → LoadRan lim bs before after (Load to)
   load-whole before after rested to fits base w =
       let o = loads before true (le-leb (length ns) (length before) fits) in
       let count : to ≡ length ns = w .place-is ∙ sym numbers-long in

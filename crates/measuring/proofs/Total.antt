@@ -9,10 +9,12 @@ use Rattle.transducers.specs.Table.{Step, Row, no-step, no-row, row}
 use Rattle.tables.specs.Bytes.{joined}
 use Rattle.steps.specs.Entry.{countOf}
 use Rattle.decoder.specs.Index.{Loaded}
+use Rattle.tables.proofs.Outcomes.{read-few}
+use Rattle.limits.specs.declared.Limits.{Limits}
 use Rattle.loaded.specs.Numbers.{rowAt, behind, stepsBehind, rowBehind, firstResting, rowsNumbers, numbers}
 use Rattle.loaded.proofs.Rows.{rows-numbers-length}
 
-module _ (bs ix : List ℕ) (k : ℕ) (l : Loaded bs k ix) where
+module _ {lim : Limits} (bs ix : List ℕ) (k : ℕ) (l : Loaded lim bs k ix) where
   module _ (q cell : ℕ) (h : q < length (l .table)) (is : cell ≡ q * (k + 1)) where
     abbrev y : Row
     y = row (l .table) q
@@ -23,7 +25,7 @@ module _ (bs ix : List ℕ) (k : ℕ) (l : Loaded bs k ix) where
     pub step-count : (a : ℕ) → a < k → countOf (getD ix (cell + 1 + a) 0) ≡ length (getD (y .steps) a no-step .output)
     step-count a ha =
         ap (λ (c : ℕ). countOf (getD ix (c + 1 + a) 0)) is
-        ∙ (omega (arith, l .cells q h .steps a ha .count-is, l .valid .balanced q a h ha, l .valid .held q h))
+        ∙ (omega (arith, l .cells q h .steps a ha .count-is, l .valid .balanced q a h ha, l .valid .held q h, read-few lim bs _ (l .decodes)))
 
     pub measure-start : (n : ℕ) → n ≡ length (behind (y .final)) → n + length (stepsBehind (drop 0 (y .steps))) ≡ length (rowBehind y)
     measure-start n e = omega (arith, e, length-append (behind (y .final)) (stepsBehind (y .steps)))

@@ -6,6 +6,7 @@ use mathlib.Core.Path.{_≡_, refl, sym, ap, _∙_}
 use mathlib.Core.Logic.{_↔_}
 use mathlib.Core.List.{List, _++_}
 use lib.ListN.{length, take, drop}
+use Rattle.limits.specs.declared.Limits.{Limits}
 use Rattle.words.specs.Word.{Below, differences}
 use Rattle.answers.specs.Outcome.{Outcome, result, refused, nothing, byte, rule}
 use Rattle.answers.specs.Slice.{longOf, written}
@@ -23,10 +24,11 @@ use Rattle.packing.specs.Packed.{packed, taken, unpacked, handed, Legible}
 use Rattle.packing.proofs.Number.{unpacked-packed}
 use Rattle.nedzsuka.proofs.Legible.{legible-book, legible-table, legible-compile}
 
--- what the contract of nedzsuka_compile_ending says of the number and the output slice; nedzsuka_compile's says it with no-end
-pub record CompileCall (book : List ℕ) (end n : ℕ) (work before after : List ℕ) (number : ℕ) : Type 0 where
-  pub answered : number ≡ packed (longOf (compileAnswer book end n (length work) (length before)))
-  pub wrote : after ≡ written (compileAnswer book end n (length work) (length before)) before
+-- what the contract of nedzsuka_compile_within says of the number and the output slice; nedzsuka_compile_ending's says it with document 01's
+-- limits, and nedzsuka_compile's with no-end besides
+pub record CompileCall (lim : Limits) (book : List ℕ) (end n : ℕ) (work before after : List ℕ) (number : ℕ) : Type 0 where
+  pub answered : number ≡ packed (longOf (compileAnswer lim book end n (length work) (length before)))
+  pub wrote : after ≡ written (compileAnswer lim book end n (length work) (length before)) before
 
 -- and those of nedzsuka_run_book, nedzsuka_run_table and nedzsuka_run_loaded, where the run has this outcome
 pub record RunCall (outcome : Outcome (List ℕ)) (sentence before after : List ℕ) (number : ℕ) : Type 0 where
@@ -76,17 +78,17 @@ refused-writes o before value number e h = refused-keeps o before (λ made f. h 
 
 -- ---- compile
 
-module _ (book : List ℕ) (end n : ℕ) (work before after : List ℕ) (number : ℕ) (call : CompileCall book end n work before after number) where
+module _ (lim : Limits) (book : List ℕ) (end n : ℕ) (work before after : List ℕ) (number : ℕ) (call : CompileCall lim book end n work before after number) where
   abbrev outcome : Outcome (List ℕ)
-  outcome = compileAnswer book end n (length work) (length before)
+  outcome = compileAnswer lim book end n (length work) (length before)
 
   -- what the lower 8 bits and the rest say, is the outcome
-  pub number-means : unpacked number ≡ handed (longOf (compileAnswer book end n (length work) (length before)))
-  number-means = means (longOf outcome) (legible-compile book end n (length work) (length before)) number (call .answered)
+  pub number-means : unpacked number ≡ handed (longOf (compileAnswer lim book end n (length work) (length before)))
+  number-means = means (longOf outcome) (legible-compile lim book end n (length work) (length before)) number (call .answered)
 
-  outcome-is : number % 256 ≡ 0 → compileAnswer book end n (length work) (length before) ≡ result (take (number / 256) after)
+  outcome-is : number % 256 ≡ 0 → compileAnswer lim book end n (length work) (length before) ≡ result (take (number / 256) after)
   outcome-is e =
-      let o = means-result (longOf outcome) (legible-compile book end n (length work) (length before)) number (call .answered) e in
+      let o = means-result (longOf outcome) (legible-compile lim book end n (length work) (length before)) number (call .answered) e in
       front-result (number / 256) before after outcome (sym o) (call .wrote)
 
   -- "a refused call writes no byte of an output slice"
@@ -94,33 +96,33 @@ module _ (book : List ℕ) (end n : ℕ) (work before after : List ℕ) (number 
   refused-nothing h = call .wrote ∙ refused-writes outcome before length number (λ made e. call .answered ∙ ap (λ (o : Outcome (List ℕ)). packed (longOf o)) e) h
 
   -- the first bytes of the output slice, as many as the answer says, are the smallest table of the book, early and numbered
-  pub table-is : number % 256 ≡ 0 → Compiled book end n (length work) (take (number / 256) after)
-  table-is e = demand.compiled book end n (length work) (length before) (take (number / 256) after) (outcome-is e)
+  pub table-is : number % 256 ≡ 0 → Compiled lim book end n (length work) (take (number / 256) after)
+  table-is e = demand.compiled lim book end n (length work) (length before) (take (number / 256) after) (outcome-is e)
 
   -- 10 with i is answered exactly if the first i rules are the shortest leading part that needs more than n states in every machine
-  pub rule-named : (i : ℕ) → (number ≡ i * 256 + 10) ↔ Named book end n (length work) i
+  pub rule-named : (i : ℕ) → (number ≡ i * 256 + 10) ↔ Named lim book end n (length work) i
   rule-named i =
-      let d = demand.refused-10 book end n (length work) (length before) i in (
-        λ e. d .0 (long-rule 10 i outcome (sym (means-rule (longOf outcome) (legible-compile book end n (length work) (length before)) number (call .answered) i e))),
+      let d = demand.refused-10 lim book end n (length work) (length before) i in (
+        λ e. d .0 (long-rule 10 i outcome (sym (means-rule (longOf outcome) (legible-compile lim book end n (length work) (length before)) number (call .answered) i e))),
         λ h. call .answered ∙ ap (λ (o : Outcome (List ℕ)). packed (longOf o)) (d .1 h),
       )
 
-  module _ (c : Cascade) (p : Premises book end n (length work) c) where
+  module _ (c : Cascade) (p : Premises lim book end n (length work) c) where
     -- 10 is answered if any leading part needs more, and names the shortest
     pub some-part : (j : ℕ) → PartNeedsMore c n j → (i : ℕ) × Shortest c n i × (number ≡ i * 256 + 10)
     some-part j h =
-        let d = demand.some-part book end n (length work) (length before) c p j h in
+        let d = demand.some-part lim book end n (length work) (length before) c p j h in
         (d .0, d .1, call .answered ∙ ap (λ (o : Outcome (List ℕ)). packed (longOf o)) (d .2))
 
     -- where none does there is a smallest table: its bytes stand at the front of the output slice and their number is answered, or the
     -- slice is shorter, stays as it is, and 11 is answered
     pub otherwise : ((i : ℕ) → PartNeedsMore c n i → ⊥)
         → (bytes : List ℕ)
-        × SmallestTable c bytes
+        × SmallestTable lim c bytes
         × (length bytes ≤ length before → (number ≡ length bytes * 256) × (after ≡ bytes ++ drop (length bytes) before))
         × (length before < length bytes → (number ≡ 11) × (after ≡ before))
     otherwise none =
-        let d = demand.otherwise book end n (length work) (length before) c p none in (
+        let d = demand.otherwise lim book end n (length work) (length before) c p none in (
           d .0,
           d .1,
           λ l. (
@@ -133,16 +135,16 @@ module _ (book : List ℕ) (end n : ℕ) (work before after : List ℕ) (number 
           ),
         )
 
--- two books over equally many tags, each with its end tag, that compile get the same bytes exactly if they behave alike
-pub same-bytes : (book book' : List ℕ) (end end' n n' : ℕ) (work work' before before' after after' : List ℕ) (number number' : ℕ) (c d : Cascade)
-    → readEnding book end ≡ result c → readEnding book' end' ≡ result d → c .tags ≡ d .tags
-    → CompileCall book end n work before after number → number % 256 ≡ 0 → CompileCall book' end' n' work' before' after' number' → number' % 256 ≡ 0
+-- two books over equally many tags, each with its limits and its end tag, that compile get the same bytes exactly if they behave alike
+pub same-bytes : (lim lim' : Limits) (book book' : List ℕ) (end end' n n' : ℕ) (work work' before before' after after' : List ℕ) (number number' : ℕ) (c d : Cascade)
+    → readEnding lim book end ≡ result c → readEnding lim' book' end' ≡ result d → c .tags ≡ d .tags
+    → CompileCall lim book end n work before after number → number % 256 ≡ 0 → CompileCall lim' book' end' n' work' before' after' number' → number' % 256 ≡ 0
     → (take (number / 256) after ≡ take (number' / 256) after') ↔ Alike c d
-same-bytes book book' end end' n n' work work' before before' after after' number number' c d r q k a e b f =
-    demand.same-bytes book book' end end' n n' (length work) (length work') (length before) (length before')
+same-bytes lim lim' book book' end end' n n' work work' before before' after after' number number' c d r q k a e b f =
+    demand.same-bytes lim lim' book book' end end' n n' (length work) (length work') (length before) (length before')
     (take (number / 256) after) (take (number' / 256) after') c d r q k
-    (outcome-is book end n work before after number a e)
-    (outcome-is book' end' n' work' before' after' number' b f)
+    (outcome-is lim book end n work before after number a e)
+    (outcome-is lim' book' end' n' work' before' after' number' b f)
 
 -- ---- the runs
 
@@ -169,40 +171,40 @@ module _ (o : Outcome (List ℕ)) (sentence before after : List ℕ) (number : �
 module _ (sentence before after : List ℕ) (number : ℕ) where
   -- a book's run: no refusal is answered exactly if the book is valid with the end tag and the sentence not refused; then what the rules
   -- leave stands at the front of the output slice, and the places that changed are counted
-  pub book-made : (book : List ℕ) (end : ℕ) → RunCall (bookRun book end sentence (length before)) sentence before after number → number % 256 ≡ 0
-      → (made : List ℕ) × BookMakes book end sentence (length before) made × (number ≡ differences sentence made * 256) × (after ≡ made ++ drop (length made) before)
-  book-made book end call e =
-      let m = run-made (bookRun book end sentence (length before)) sentence before after number call (legible-book book end sentence (length before)) e in
-      let w = made-counted (bookRun book end sentence (length before)) sentence before after number call (m .0) (m .1) in
-      (m .0, runs.book-makes sentence (length before) (m .0) book end .0 (m .1), w .0, w .1)
+  pub book-made : (lim : Limits) (book : List ℕ) (end : ℕ) → RunCall (bookRun lim book end sentence (length before)) sentence before after number → number % 256 ≡ 0
+      → (made : List ℕ) × BookMakes lim book end sentence (length before) made × (number ≡ differences sentence made * 256) × (after ≡ made ++ drop (length made) before)
+  book-made lim book end call e =
+      let m = run-made (bookRun lim book end sentence (length before)) sentence before after number call (legible-book lim book end sentence (length before)) e in
+      let w = made-counted (bookRun lim book end sentence (length before)) sentence before after number call (m .0) (m .1) in
+      (m .0, runs.book-makes sentence (length before) (m .0) lim book end .0 (m .1), w .0, w .1)
 
-  pub book-makes : (book : List ℕ) (end : ℕ) → RunCall (bookRun book end sentence (length before)) sentence before after number
-      → (made : List ℕ) → BookMakes book end sentence (length before) made → (number ≡ differences sentence made * 256) × (after ≡ made ++ drop (length made) before)
-  book-makes book end call made h =
-      made-counted (bookRun book end sentence (length before)) sentence before after number call made (runs.book-makes sentence (length before) made book end .1 h)
+  pub book-makes : (lim : Limits) (book : List ℕ) (end : ℕ) → RunCall (bookRun lim book end sentence (length before)) sentence before after number
+      → (made : List ℕ) → BookMakes lim book end sentence (length before) made → (number ≡ differences sentence made * 256) × (after ≡ made ++ drop (length made) before)
+  book-makes lim book end call made h =
+      made-counted (bookRun lim book end sentence (length before)) sentence before after number call made (runs.book-makes sentence (length before) made lim book end .1 h)
 
   -- a table's run likewise; every byte of a slice is below 0x100
-  pub table-made : (table : List ℕ) → Below 0x100 table → RunCall (tableRun table sentence (length before)) sentence before after number → number % 256 ≡ 0
-      → (made : List ℕ) × TableMakes table sentence (length before) made × (number ≡ differences sentence made * 256) × (after ≡ made ++ drop (length made) before)
-  table-made table b call e =
-      let m = run-made (tableRun table sentence (length before)) sentence before after number call (legible-table table sentence (length before)) e in
-      let w = made-counted (tableRun table sentence (length before)) sentence before after number call (m .0) (m .1) in
-      (m .0, runs.table-makes sentence (length before) (m .0) table b .0 (m .1), w .0, w .1)
+  pub table-made : (lim : Limits) (table : List ℕ) → Below 0x100 table → RunCall (tableRun lim table sentence (length before)) sentence before after number → number % 256 ≡ 0
+      → (made : List ℕ) × TableMakes lim table sentence (length before) made × (number ≡ differences sentence made * 256) × (after ≡ made ++ drop (length made) before)
+  table-made lim table b call e =
+      let m = run-made (tableRun lim table sentence (length before)) sentence before after number call (legible-table lim table sentence (length before)) e in
+      let w = made-counted (tableRun lim table sentence (length before)) sentence before after number call (m .0) (m .1) in
+      (m .0, runs.table-makes sentence (length before) (m .0) lim table b .0 (m .1), w .0, w .1)
 
-  pub table-makes : (table : List ℕ) → Below 0x100 table → RunCall (tableRun table sentence (length before)) sentence before after number
-      → (made : List ℕ) → TableMakes table sentence (length before) made → (number ≡ differences sentence made * 256) × (after ≡ made ++ drop (length made) before)
-  table-makes table b call made h =
-      made-counted (tableRun table sentence (length before)) sentence before after number call made (runs.table-makes sentence (length before) made table b .1 h)
+  pub table-makes : (lim : Limits) (table : List ℕ) → Below 0x100 table → RunCall (tableRun lim table sentence (length before)) sentence before after number
+      → (made : List ℕ) → TableMakes lim table sentence (length before) made → (number ≡ differences sentence made * 256) × (after ≡ made ++ drop (length made) before)
+  table-makes lim table b call made h =
+      made-counted (tableRun lim table sentence (length before)) sentence before after number call made (runs.table-makes sentence (length before) made lim table b .1 h)
 
 -- "through the book or through its table": the run of a compiled table answers the number and writes the bytes of the run of its book
-pub same-run : (book : List ℕ) (end n : ℕ) (work before after : List ℕ) (number : ℕ) → CompileCall book end n work before after number → number % 256 ≡ 0
+pub same-run : (lim : Limits) (book : List ℕ) (end n : ℕ) (work before after : List ℕ) (number : ℕ) → CompileCall lim book end n work before after number → number % 256 ≡ 0
     → (sentence out by-table by-book : List ℕ) (table-number book-number : ℕ)
-    → RunCall (tableRun (take (number / 256) after) sentence (length out)) sentence out by-table table-number
-    → RunCall (bookRun book end sentence (length out)) sentence out by-book book-number
+    → RunCall (tableRun lim (take (number / 256) after) sentence (length out)) sentence out by-table table-number
+    → RunCall (bookRun lim book end sentence (length out)) sentence out by-book book-number
     → (table-number ≡ book-number) × (by-table ≡ by-book)
-same-run book end n work before after number call e sentence out by-table by-book table-number book-number r q =
+same-run lim book end n work before after number call e sentence out by-table by-book table-number book-number r q =
     let same =
-    runs.same-run book end n (length work) (length before) (take (number / 256) after) (outcome-is book end n work before after number call e) sentence (length out)
+    runs.same-run lim book end n (length work) (length before) (take (number / 256) after) (outcome-is lim book end n work before after number call e) sentence (length out)
     in (
       r .answered ∙ ap (λ (o : Outcome (List ℕ)). packed (changed sentence o)) same ∙ sym (q .answered),
       r .wrote ∙ ap (λ (o : Outcome (List ℕ)). written o out) same ∙ sym (q .wrote),

@@ -4,7 +4,8 @@ use native.Mathlib.Omega.{arith}
 use mathlib.Core.Path.{_≡_, sym, ap, _∙_}
 use mathlib.Core.List.{List, _++_}
 use lib.ListN.{length, take, drop, replicate, length-replicate}
-use Rattle.limits.specs.Limits.{most-states, no-end, work-entries}
+use Rattle.limits.specs.Limits.{most-states, no-end, standard}
+use Rattle.limits.specs.Work.{work-entries}
 use Rattle.answers.specs.Outcome.{Outcome}
 use Rattle.answers.specs.Slice.{longOf, written}
 use Rattle.tagging.specs.Run.{bookRun}
@@ -22,8 +23,8 @@ pub record StarterCall (before after : List ℕ) (number : ℕ) : Type 0 where
 
 module _ (before after : List ℕ) (number : ℕ) (call : StarterCall before after number) where
   -- it answers and writes what nedzsuka_compile does for the starter book, "wherever the ceiling is 3 to 256 and the slices are long enough"
-  pub as-compiled : (n : ℕ) (work : List ℕ) → 3 ≤ n → n ≤ most-states → work-entries n 48 1 ≤ length work
-      → CompileCall starterBook no-end n work before after number
+  pub as-compiled : (n : ℕ) (work : List ℕ) → 3 ≤ n → n ≤ most-states → work-entries standard n 48 1 ≤ length work
+      → CompileCall standard starterBook no-end n work before after number
   as-compiled n work l m w =
       let e = sym (at-every-ceiling n (length work) (length before) l m w) in
       record {
@@ -47,11 +48,11 @@ module _ (before after : List ℕ) (number : ℕ) (call : StarterCall before aft
   -- the run of the table in front of the slice answers the number and writes the bytes of the run of the starter book, for every sentence
   pub same-run : number % 256 ≡ 0
       → (sentence out by-table by-book : List ℕ) (table-number book-number : ℕ)
-      → RunCall (tableRun (take (number / 256) after) sentence (length out)) sentence out by-table table-number
-      → RunCall (bookRun starterBook no-end sentence (length out)) sentence out by-book book-number
+      → RunCall (tableRun standard (take (number / 256) after) sentence (length out)) sentence out by-table table-number
+      → RunCall (bookRun standard starterBook no-end sentence (length out)) sentence out by-book book-number
       → (table-number ≡ book-number) × (by-table ≡ by-book)
   same-run =
-      let n = work-entries 3 48 1 in
+      let n = work-entries standard 3 48 1 in
       let work : List ℕ = replicate n 0 in
       let enough : n ≤ length work = omega (arith, length-replicate {A = ℕ} n 0) in
-      demand.same-run starterBook no-end 3 work before after number (as-compiled 3 work (omega arith) (omega arith) enough)
+      demand.same-run standard starterBook no-end 3 work before after number (as-compiled 3 work (omega arith) (omega arith) enough)

@@ -1,5 +1,6 @@
 // The lines of document 01 that are not marked: "A program runs the others and compares". Each line has the case and what compile answers.
 use answers::CompileAnswer;
+use limits::STANDARD;
 use printing::put;
 use printing::put_number;
 use printing::put_refusal;
@@ -23,7 +24,7 @@ fn put_states(table: &[u8]) {
 }
 
 fn answer(book: &[u8], ceiling: usize, work: &mut [u16], out: &mut [u8]) {
-    match compiler::compile(book, ceiling, work, out) {
+    match compiler::compile(book, ceiling, work, out, STANDARD) {
         CompileAnswer::Table(_) => put_states(out),
         CompileAnswer::Refused(refusal) => put_refusal(refusal),
     }

@@ -1,34 +1,38 @@
 // Reading a book: its commands are told apart and followed one after the other, and their rules go to the caller's arrays.
+use answers::Refusal;
 use books::BookAnswer;
 use books::COMMAND;
 use books::HEAD;
 use books::PLACE;
 use books::TAG;
+use books::Tags;
 use cascades::Rule;
-use commands::add_tag;
 use commands::end_book;
 use commands::open_book;
 use commands::open_rule;
+use commands::read_tags;
 use commands::refused;
+use limits::Limits;
 use limits::PATTERN;
 use limits::RULES;
 use words::wide;
 ghost use mathlib.Core.Path.{_≡_};
 ghost use Prim.Native.Nat.{_+_, _≤_, _<_};
 ghost use lib.ListN.{length, getD};
-ghost use Rattle.limits.specs.Limits.{most-rules};
+ghost use Rattle.limits.specs.Limits.{InRange, most-rules};
+ghost use Rattle.limits.specs.Within.{within};
 ghost use Rattle.cascades.specs.Value.{ruleOf, Formed};
 ghost use Rattle.books.specs.Read.{read};
 ghost use Rattle.books.specs.Arrays.{arrays, Shaped, ruleAt};
 ghost use Rattle.books.specs.Answer.{sizes, bookOutcome};
-ghost use Rattle.books.specs.Resume.{Resumes, Reads, Whole, readCommands};
+ghost use Rattle.books.specs.Resume.{Resumes, Opens, Reads, Whole, readCommands};
 
 // The commands that open a rule.
 const ONCE: u8 = 0x21;
 
 const EVERYWHERE: u8 = 0x24;
 
-// The command at `at`, which is neither 00 nor 22.
+// The command at `at`, which is not 00, and 22 only where no rule is open.
 fn read_rule(
     s: &[u8],
     at: usize,
@@ -37,14 +41,17 @@ fn read_rule(
     rows: &[[u8; PATTERN]; RULES],
     lengths: &mut [usize; RULES],
     heads: &mut [[u8; HEAD]; RULES],
+    lim: Limits,
 ) -> BookAnswer
     requires { ⌜ Shaped (arrays rows lengths heads) ⌝ }
-    requires { ⌜ (m ≤ most-rules) × (at < length (now s)) × (getD (now s) at 0 ≡ 0 → ⊥) × (getD (now s) at 0 ≡ 0x22 → ⊥) ⌝ }
-    ensures { λ r. ⌜ Resumes (now (s .entry)) (readCommands (now (s .entry)) k m (arrays (rows .entry) (lengths .entry) (heads .entry)) at) (at + 1 + 1 + 1) (arrays (rows .entry) (lengths .exit) (heads .exit)) r ⌝ }
+    requires { ⌜ (m ≤ most-rules) × (at < length (now s)) × (getD (now s) at 0 ≡ 0 → ⊥) × (getD (now s) at 0 ≡ 0x22 → m ≡ 0) ⌝ }
+    requires { ⌜ InRange lim ⌝ }
+    ensures resumes { λ r. ⌜ Resumes lim (now (s .entry)) (readCommands lim (now (s .entry)) k m (arrays (rows .entry) (lengths .entry) (heads .entry)) at) (at + 1 + 1 + 1) (arrays (rows .entry) (lengths .exit) (heads .exit)) r ⌝ }
+    ensures opens { λ r. ⌜ Opens k m (arrays (rows .entry) (lengths .exit) (heads .exit)) r ⌝ }
 {
     let command = s[at];
     if command == ONCE || command == EVERYWHERE {
-        return open_rule(s, at, k, m, rows, lengths, heads);
+        return open_rule(s, at, k, m, rows, lengths, heads, lim);
     }
     refused(1, at)
 }
@@ -52,41 +59,39 @@ fn read_rule(
 // The commands after 20 and K.
 fn read_commands(
     s: &[u8],
-    k0: u8,
-    m0: usize,
+    k: u8,
     rows: &mut [[u8; PATTERN]; RULES],
     lengths: &mut [usize; RULES],
     heads: &mut [[u8; HEAD]; RULES],
+    lim: Limits,
 ) -> BookAnswer
     requires { ⌜ Shaped (arrays rows lengths heads) ⌝ }
-    requires { ⌜ (m0 ≤ most-rules) × (2 ≤ length (now s)) ⌝ }
-    ensures { λ r. ⌜ Reads (readCommands (now (s .entry)) k0 m0 (arrays (rows .entry) (lengths .entry) (heads .entry)) 2) (arrays (rows .exit) (lengths .exit) (heads .exit)) r ⌝ }
+    requires { ⌜ 2 ≤ length (now s) ⌝ }
+    requires { ⌜ InRange lim ⌝ }
+    ensures { λ r. ⌜ Reads (readCommands lim (now (s .entry)) k 0 (arrays (rows .entry) (lengths .entry) (heads .entry)) 2) (arrays (rows .exit) (lengths .exit) (heads .exit)) r ⌝ }
 {
-    let mut k = k0;
-    let mut m = m0;
+    let mut m = 0;
     let mut at = 2;
     while at < s.len() {
         let command = s[at];
-        if command == 0x22 {
-            let got = add_tag(s, at, k, m, rows, lengths, heads);
-            let BookAnswer::Book { tags, rules } = got else {
-                return got;
-            };
-            k = tags;
-            m = rules;
-            at += 2;
-            continue;
-        }
         if command == 0 {
             return end_book(s, at, k, m, rows, lengths, heads);
         }
-        let got = read_rule(s, at, k, m, rows, lengths, heads);
-        let BookAnswer::Book { tags, rules } = got else {
+        let got = read_rule(s, at, k, m, rows, lengths, heads, lim);
+        let BookAnswer::Book { tags: _, rules } = got else {
             return got;
         };
-        k = tags;
+        let tags = read_tags(s, at + 3, k, &mut rows[m], lim.pattern);
+        match tags {
+            Tags::Refused { number, byte } => {
+                return refused(number, byte);
+            }
+            Tags::To { at: to, n } => {
+                lengths[m] = n;
+                at = to;
+            }
+        }
         m = rules;
-        at += 3;
     }
     refused(1, at)
 }
@@ -97,15 +102,17 @@ pub fn read_into(
     rows: &mut [[u8; PATTERN]; RULES],
     lengths: &mut [usize; RULES],
     heads: &mut [[u8; HEAD]; RULES],
+    lim: Limits,
 ) -> BookAnswer
     requires { ⌜ Shaped (arrays rows lengths heads) ⌝ }
-    ensures { λ r. ⌜ Whole (now (s .entry)) (arrays (rows .exit) (lengths .exit) (heads .exit)) r ⌝ }
+    requires { ⌜ InRange lim ⌝ }
+    ensures { λ r. ⌜ Whole lim (now (s .entry)) (arrays (rows .exit) (lengths .exit) (heads .exit)) r ⌝ }
 {
-    let opened = open_book(s);
-    let BookAnswer::Book { tags, rules } = opened else {
+    let opened = open_book(s, lim);
+    let BookAnswer::Book { tags, rules: _ } = opened else {
         return opened;
     };
-    read_commands(s, tags, rules, rows, lengths, heads)
+    read_commands(s, tags, rows, lengths, heads, lim)
 }
 
 // The rule i of the arrays.
@@ -129,12 +136,23 @@ pub fn rule_at(
     }
 }
 
-// K and the number of rules, or the refusal with its byte.
-pub fn read_book(book: &[u8]) -> BookAnswer
-    ensures { λ r. ⌜ bookOutcome r ≡ sizes (read (now (book .entry))) ⌝ }
+// Reads a book into arrays of its own.
+fn read_within(book: &[u8], lim: Limits) -> BookAnswer
+    requires { ⌜ InRange lim ⌝ }
+    ensures { λ r. ⌜ bookOutcome r ≡ sizes (read lim (now (book .entry))) ⌝ }
 {
     let mut rows = [[0u8; PATTERN]; RULES];
     let mut lengths = [0usize; RULES];
     let mut heads = [[0u8; HEAD]; RULES];
-    read_into(book, &mut rows, &mut lengths, &mut heads)
+    read_into(book, &mut rows, &mut lengths, &mut heads, lim)
+}
+
+// K and the number of rules, or the refusal: 17, or the book's with its byte.
+pub fn read_book(book: &[u8], lim: Limits) -> BookAnswer
+    ensures { λ r. ⌜ bookOutcome r ≡ within lim (sizes (read lim (now (book .entry)))) ⌝ }
+{
+    if limits::in_range(lim) {
+        return read_within(book, lim);
+    }
+    BookAnswer::Refused(Refusal::Bare { number: 17 })
 }

@@ -7,6 +7,8 @@ use mathlib.Core.Path.{_≡_, refl, sym, ap, ap₂, _∙_, subst}
 use mathlib.Core.List.{List, [], _∷_, _++_}
 use lib.ListN.{length, drop, getD, length-append, drop-of-length-le}
 use lib.Seq.{sets}
+use Rattle.limits.specs.Limits.{most-tags}
+use Rattle.limits.proofs.Range.{held-few}
 use Rattle.words.proofs.Word.{drop-step}
 use Rattle.words.proofs.Regions.{sets-more, sets-sets}
 use Rattle.transducers.specs.Table.{Row, Table, no-row, row, step}
@@ -23,6 +25,10 @@ pub record RowsGoing (t : Table) (k s rested : ℕ) (b₀ b : List ℕ) (q place
   pub wrote : (rest : ℕ) → Base k rest rested
       → sets (sets b₀ (rowAt k s) (joined rowBehind t)) 1 (rowsNumbers k rest (rowAt k s) t)
       ≡ sets (sets b place (joined rowBehind (drop q t))) p (rowsNumbers k rest place (drop q t))
+
+-- it has few tags
+pub source-tags : {bs ix : List ℕ} {k s room : ℕ} → Source bs ix k s room → k ≤ most-tags
+source-tags x = omega (arith, x .valid .tags-most, x .ranged .few-tags)
 
 module _ (bs ix : List ℕ) (k s room rested : ℕ) (x : Source bs ix k s room) (b₀ : List ℕ) where
   abbrev t : Table
@@ -61,12 +67,12 @@ module _ (bs ix : List ℕ) (k s room rested : ℕ) (x : Source bs ix k s room) 
       row-here cell room' is same entries =
           record {
             row = row t q;
-            held = omega (arith, x .valid .held q in-table);
+            held = omega (arith, x .valid .held q in-table, held-few (x .lim) (x .ranged));
             final = subst (λ (c : ℕ). FinalEntry bs (row t q .final) (getD ix c 0)) (sym is) (x .cells q in-table .final);
             whole = x .valid .whole q in-table;
-            few-tags = x .valid .tags-most;
+            few-tags = source-tags x;
             few-states = λ a ha. omega (arith, x .valid .next-below q a in-table ha, x .valid .states-most);
-            short = λ a ha. omega (arith, x .valid .balanced q a in-table ha, x .valid .held q in-table);
+            short = λ a ha. omega (arith, x .valid .balanced q a in-table ha, x .valid .held q in-table, held-few (x .lim) (x .ranged));
             is = λ a ha. subst (λ (c : ℕ). StepEntry k bs ix (c + 1 + a) (step t q a)) (sym is) (x .cells q in-table .steps a ha);
             entries = entries;
             places = omega (arith, left, x .places);

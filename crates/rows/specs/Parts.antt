@@ -4,7 +4,8 @@ use mathlib.Core.Path.{_≡_}
 use mathlib.Core.List.{List}
 use lib.ListN.{length, getD}
 use lib.Seq.{sets}
-use Rattle.limits.specs.Limits.{most-tags, most-states}
+use Rattle.limits.specs.Limits.{most-tags, most-states, InRange}
+use Rattle.limits.specs.declared.Limits.{Limits}
 use Rattle.transducers.specs.Table.{Step, Row, Table, no-step}
 use Rattle.tables.specs.Bytes.{joined}
 use Rattle.tables.specs.Valid.{ValidTable}
@@ -62,8 +63,10 @@ pub record RowWritten (x : Row) (k rested place : ℕ) (before after : List ℕ)
 
 -- a valid table of s states is in the index; its numbers are few, and have room
 pub record Source (bs ix : List ℕ) (k s room : ℕ) : Type 0 where
+  pub lim : Limits
+  pub ranged : InRange lim
   pub table : Table
-  pub valid : ValidTable k table
+  pub valid : ValidTable lim k table
   pub cells : TableEntries k (length table) bs ix table
   pub long : length table ≡ s
   pub entries : s * (k + 1) ≤ length ix

@@ -2,12 +2,13 @@
 use mathlib.Core.Path.{_≡_, refl}
 use mathlib.Core.Bool.{true}
 use mathlib.Core.List.{[], _∷_}
+use Rattle.limits.specs.Limits.{standard}
 use Rattle.typing.proofs.Examples.{table-a, at}
 use Rattle.sessions.specs.Session.{gives, looks, closes, session}
 
 -- 0 0 1 0 1 with a look, a wrong tag, a give without room and one after the close between: 0 1 1 0 1, as document 01 says
 typed :
-    session table-a (at 0 0)
+    session standard table-a (at 0 0)
     (gives 0 0
     ∷ looks 1
     ∷ gives 0 1

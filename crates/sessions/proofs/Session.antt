@@ -7,6 +7,7 @@ use mathlib.Core.List.{List, [], _∷_, _++_, append-nil, append-assoc}
 use lib.Dec.{leb}
 use lib.ListN.{length, length-append}
 use Rattle.limits.specs.Limits.{longest-sentence}
+use Rattle.limits.specs.declared.Limits.{Limits}
 use Rattle.words.specs.Word.{Below}
 use Rattle.words.proofs.Word.{below-append}
 use Rattle.answers.specs.Outcome.{Outcome, result, refused, Place, andThen, provided}
@@ -15,7 +16,7 @@ use Rattle.answers.proofs.Outcome.{passed, went}
 use Rattle.transducers.specs.Transducer.{Shape, puts}
 use Rattle.transducers.specs.Table.{Step, row, step, shape}
 use Rattle.tables.specs.Valid.{ValidTable}
-use Rattle.tables.specs.Decode.{Decoded, decode}
+use Rattle.tables.specs.Decode.{Decoded, decodeWithin}
 use Rattle.typing.specs.Typing.{standing, admits, stepped, held, moved, shut}
 use Rattle.sessions.specs.Session.{Call, gives, looks, closes, call, takes, brings, Session, proceed, proceeds}
 use Rattle.typing.specs.declared.Sentence.{Sentence}
@@ -28,22 +29,22 @@ parts : (s s' : Sentence) (t t' o o' : List ℕ) → s ≡ s' → t ≡ t' → o
     → _≡_ {A = Session} (record { sentence = s; taken = t; out = o }) (record { sentence = s'; taken = t'; out = o' })
 parts s s' t t' o o' e f g = rw (e, f, g) refl
 
-same-session : (table : List ℕ) (x : Session) (c : Call) (o : Outcome (List ℕ))
-    → call table (x .sentence) c .put ≡ o → call table (x .sentence) c .sentence ≡ x .sentence → takes c o ≡ [] → brings c o ≡ [] → proceed table x c ≡ x
-same-session table x c o p s t b =
-    let t' : x .taken ++ takes c (call table (x .sentence) c .put) ≡ x .taken = rw (p, t) (append-nil (x .taken)) in
-    let b' : x .out ++ brings c (call table (x .sentence) c .put) ≡ x .out = rw (p, b) (append-nil (x .out)) in
+same-session : (lim : Limits) (table : List ℕ) (x : Session) (c : Call) (o : Outcome (List ℕ))
+    → call lim table (x .sentence) c .put ≡ o → call lim table (x .sentence) c .sentence ≡ x .sentence → takes c o ≡ [] → brings c o ≡ [] → proceed lim table x c ≡ x
+same-session lim table x c o p s t b =
+    let t' : x .taken ++ takes c (call lim table (x .sentence) c .put) ≡ x .taken = rw (p, t) (append-nil (x .taken)) in
+    let b' : x .out ++ brings c (call lim table (x .sentence) c .put) ≡ x .out = rw (p, b) (append-nil (x .out)) in
     parts _ _ _ _ _ _ s t' b'
 
 -- a refused call hands back the sentence unchanged
-pub refused-keeps : (table : List ℕ) (s : Sentence) (c : Call) (n : ℕ) (p : Place) → call table s c .put ≡ refused n p → call table s c .sentence ≡ s
-refused-keeps table s (gives a room) n p e = by (stepped table s a room) e
+pub refused-keeps : (lim : Limits) (table : List ℕ) (s : Sentence) (c : Call) (n : ℕ) (p : Place) → call lim table s c .put ≡ refused n p → call lim table s c .sentence ≡ s
+refused-keeps lim table s (gives a room) n p e = by (stepped lim table s a room) e
   where
     by : (o : Outcome Step) → moved s o .put ≡ refused n p → moved s o .sentence ≡ s
     by (result v) e = let z : _≡_ {A = ℕ} 0 1 = cc in absurd (omega arith)
     by (refused m q) e = refl
-refused-keeps table s (looks room) n p e = refl
-refused-keeps table s (closes room) n p e = by (held table s room) e
+refused-keeps lim table s (looks room) n p e = refl
+refused-keeps lim table s (closes room) n p e = by (held lim table s room) e
   where
     by : (o : Outcome (List ℕ)) → shut s o .put ≡ refused n p → shut s o .sentence ≡ s
     by (result w) e = let z : _≡_ {A = ℕ} 0 1 = cc in absurd (omega arith)
@@ -54,13 +55,13 @@ refused-takes (gives a room) n p = (refl, refl)
 refused-takes (looks room) n p = (refl, refl)
 refused-takes (closes room) n p = (refl, refl)
 
-module _ (table : List ℕ) (x : Session) where
-  pub refused-nothing : (c : Call) (n : ℕ) (p : Place) → call table (x .sentence) c .put ≡ refused n p → proceed table x c ≡ x
+module _ (lim : Limits) (table : List ℕ) (x : Session) where
+  pub refused-nothing : (c : Call) (n : ℕ) (p : Place) → call lim table (x .sentence) c .put ≡ refused n p → proceed lim table x c ≡ x
   refused-nothing c n p e =
-      same-session table x c (refused n p) e (refused-keeps table (x .sentence) c n p e) (refused-takes c n p .0) (refused-takes c n p .1)
+      same-session lim table x c (refused n p) e (refused-keeps lim table (x .sentence) c n p e) (refused-takes c n p .0) (refused-takes c n p .1)
 
-  pub look-nothing : (room : ℕ) → proceed table x (looks room) ≡ x
-  look-nothing room = same-session table x (looks room) (held table (x .sentence) room) refl refl refl (by (held table (x .sentence) room))
+  pub look-nothing : (room : ℕ) → proceed lim table x (looks room) ≡ x
+  look-nothing room = same-session lim table x (looks room) (held lim table (x .sentence) room) refl refl refl (by (held lim table (x .sentence) room))
     where
       by : (o : Outcome (List ℕ)) → brings (looks room) o ≡ []
       by (result w) = refl
@@ -68,8 +69,8 @@ module _ (table : List ℕ) (x : Session) where
 
 -- ---- results
 
-module _ (table : List ℕ) (d : Decoded) (decodes : decode table ≡ result d) (s : Sentence) where
-  pub stepped-is : (a room : ℕ) (v : Step) → stepped table s a room ≡ result v
+module _ (lim : Limits) (table : List ℕ) (d : Decoded) (decodes : decodeWithin lim table ≡ result d) (s : Sentence) where
+  pub stepped-is : (a room : ℕ) (v : Step) → stepped lim table s a room ≡ result v
       → Taken s (length (d .table)) (d .tags) a × (v ≡ step (d .table) (s .state) a)
   stepped-is a room v e =
       let u = step (d .table) (s .state) a in
@@ -79,7 +80,7 @@ module _ (table : List ℕ) (d : Decoded) (decodes : decode table ≡ result d) 
       let g = passed 11 (leb (length (u .output)) room) (result u) v (w .then) in
       (taken s (length (d .table)) (d .tags) a (w .read), cc (g .1))
 
-  pub held-is : (room : ℕ) (w : List ℕ) → held table s room ≡ result w
+  pub held-is : (room : ℕ) (w : List ℕ) → held lim table s room ≡ result w
       → (s .closed ≡ false) × (s .state < length (d .table)) × (w ≡ row (d .table) (s .state) .final)
   held-is room w e =
       let u = row (d .table) (s .state) .final in
@@ -102,7 +103,7 @@ pub record Kept (d : Decoded) (x : Session) : Type 0 where
       → x .out ++ puts (shape (d .table)) (x .sentence .state) rest ≡ puts (shape (d .table)) 0 (x .taken ++ rest)
   pub ended : x .sentence .closed ≡ true → x .out ≡ puts (shape (d .table)) 0 (x .taken)
 
-module _ (table : List ℕ) (d : Decoded) (decodes : decode table ≡ result d) (valid : ValidTable (d .tags) (d .table)) where
+module _ (lim : Limits) (table : List ℕ) (d : Decoded) (decodes : decodeWithin lim table ≡ result d) (valid : ValidTable lim (d .tags) (d .table)) where
   abbrev S : Shape
   S = shape (d .table)
 
@@ -121,20 +122,20 @@ module _ (table : List ℕ) (d : Decoded) (decodes : decode table ≡ result d) 
       }
 
   -- the held tags end the run
-  pub held-ends : (x : Session) → Kept d x → (room : ℕ) (w : List ℕ) → held table (x .sentence) room ≡ result w → x .out ++ w ≡ puts S 0 (x .taken)
+  pub held-ends : (x : Session) → Kept d x → (room : ℕ) (w : List ℕ) → held lim table (x .sentence) room ≡ result w → x .out ++ w ≡ puts S 0 (x .taken)
   held-ends x kept room w e =
-      let h = held-is table d decodes (x .sentence) room w e in
+      let h = held-is lim table d decodes (x .sentence) room w e in
       ap (λ (l : List ℕ). x .out ++ l) (h .2) ∙ kept .going (h .0) [] ∙ ap (puts S 0) (append-nil (x .taken))
 
   module _ (x : Session) (kept : Kept d x) where
     abbrev q : ℕ
     q = x .sentence .state
 
-    after-step : (a room : ℕ) (v : Step) → stepped table (x .sentence) a room ≡ result v
+    after-step : (a room : ℕ) (v : Step) → stepped lim table (x .sentence) a room ≡ result v
         → Kept d
         (record { sentence = moved (x .sentence) (result v) .sentence; taken = x .taken ++ (a ∷ []); out = x .out ++ v .output })
     after-step a room v e =
-        let h = stepped-is table d decodes (x .sentence) a room v e in
+        let h = stepped-is lim table d decodes (x .sentence) a room v e in
         let t = h .0 in
         let next : v .next ≡ S .next q a = ap (λ (u : Step). u .next) (h .1) in
         let word : v .output ≡ S .output q a = ap (λ (u : Step). u .output) (h .1) in
@@ -153,7 +154,7 @@ module _ (table : List ℕ) (d : Decoded) (decodes : decode table ≡ result d) 
           ended = λ f. absurd (both (x .sentence .closed) (t .still-open) f);
         }
 
-    after-close : (room : ℕ) (w : List ℕ) → held table (x .sentence) room ≡ result w
+    after-close : (room : ℕ) (w : List ℕ) → held lim table (x .sentence) room ≡ result w
         → Kept d (record { sentence = shut (x .sentence) (result w) .sentence; taken = x .taken ++ []; out = x .out ++ w })
     after-close room w e =
         let all : x .taken ++ [] ≡ x .taken = append-nil (x .taken) in
@@ -166,10 +167,10 @@ module _ (table : List ℕ) (d : Decoded) (decodes : decode table ≡ result d) 
           ended = λ f. held-ends x kept room w e ∙ ap (puts S 0) (sym all);
         }
 
-    pub kept-call : (c : Call) → Kept d (proceed table x c)
-    kept-call (gives a room) = by (stepped table (x .sentence) a room) refl
+    pub kept-call : (c : Call) → Kept d (proceed lim table x c)
+    kept-call (gives a room) = by (stepped lim table (x .sentence) a room) refl
       where
-        by : (o : Outcome Step) → stepped table (x .sentence) a room ≡ o
+        by : (o : Outcome Step) → stepped lim table (x .sentence) a room ≡ o
             → Kept d
             (record {
               sentence = moved (x .sentence) o .sentence;
@@ -178,10 +179,10 @@ module _ (table : List ℕ) (d : Decoded) (decodes : decode table ≡ result d) 
             })
         by (result v) e = after-step a room v e
         by (refused n p) e = subst (Kept d) (parts _ _ _ _ _ _ refl (sym (append-nil (x .taken))) (sym (append-nil (x .out)))) kept
-    kept-call (looks room) = subst (Kept d) (sym (look-nothing table x room)) kept
-    kept-call (closes room) = by (held table (x .sentence) room) refl
+    kept-call (looks room) = subst (Kept d) (sym (look-nothing lim table x room)) kept
+    kept-call (closes room) = by (held lim table (x .sentence) room) refl
       where
-        by : (o : Outcome (List ℕ)) → held table (x .sentence) room ≡ o
+        by : (o : Outcome (List ℕ)) → held lim table (x .sentence) room ≡ o
             → Kept d
             (record {
               sentence = shut (x .sentence) o .sentence;
@@ -191,6 +192,6 @@ module _ (table : List ℕ) (d : Decoded) (decodes : decode table ≡ result d) 
         by (result w) e = after-close room w e
         by (refused n p) e = subst (Kept d) (parts _ _ _ _ _ _ refl (sym (append-nil (x .taken))) (sym (append-nil (x .out)))) kept
 
-  pub kept-calls : (x : Session) → Kept d x → (cs : List Call) → Kept d (proceeds table x cs)
+  pub kept-calls : (x : Session) → Kept d x → (cs : List Call) → Kept d (proceeds lim table x cs)
   kept-calls x kept [] = kept
-  kept-calls x kept (c ∷ cs) = kept-calls (proceed table x c) (kept-call x kept c) cs
+  kept-calls x kept (c ∷ cs) = kept-calls (proceed lim table x c) (kept-call x kept c) cs

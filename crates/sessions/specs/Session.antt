@@ -2,6 +2,7 @@
 -- 02, W2): what they come to.
 use Prim.Native.Nat.{ℕ}
 use mathlib.Core.List.{List, [], _∷_, _++_}
+use Rattle.limits.specs.declared.Limits.{Limits}
 use Rattle.answers.specs.Outcome.{Outcome, result, refused}
 use Rattle.typing.specs.Typing.{Handed, give, look, close}
 use Rattle.typing.specs.declared.Sentence.{Sentence}
@@ -12,10 +13,10 @@ pub data Call : Type 0 where
   looks : ℕ → Call
   closes : ℕ → Call
 
-abbrev pub call : List ℕ → Sentence → Call → Handed
-call table s (gives a room) = give table s a room
-call table s (looks room) = look table s room
-call table s (closes room) = close table s room
+abbrev pub call : Limits → List ℕ → Sentence → Call → Handed
+call lim table s (gives a room) = give lim table s a room
+call lim table s (looks room) = look lim table s room
+call lim table s (closes room) = close lim table s room
 
 -- "the tags taken": the tag of a give that was not refused
 abbrev pub takes : Call → Outcome (List ℕ) → List ℕ
@@ -39,18 +40,18 @@ pub record Session : Type 0 where
   pub taken : List ℕ
   pub out : List ℕ
 
-abbrev pub proceed : List ℕ → Session → Call → Session
-proceed table x c =
+abbrev pub proceed : Limits → List ℕ → Session → Call → Session
+proceed lim table x c =
     record {
-      sentence = call table (x .sentence) c .sentence;
-      taken = x .taken ++ takes c (call table (x .sentence) c .put);
-      out = x .out ++ brings c (call table (x .sentence) c .put);
+      sentence = call lim table (x .sentence) c .sentence;
+      taken = x .taken ++ takes c (call lim table (x .sentence) c .put);
+      out = x .out ++ brings c (call lim table (x .sentence) c .put);
     }
 
-abbrev pub proceeds : List ℕ → Session → List Call → Session
-proceeds table x [] = x
-proceeds table x (c ∷ cs) = proceeds table (proceed table x c) cs
+abbrev pub proceeds : Limits → List ℕ → Session → List Call → Session
+proceeds lim table x [] = x
+proceeds lim table x (c ∷ cs) = proceeds lim table (proceed lim table x c) cs
 
 -- from an opening on, which handed out the sentence
-abbrev pub session : List ℕ → Sentence → List Call → Session
-session table s cs = proceeds table (record { sentence = s; taken = []; out = [] }) cs
+abbrev pub session : Limits → List ℕ → Sentence → List Call → Session
+session lim table s cs = proceeds lim table (record { sentence = s; taken = []; out = [] }) cs

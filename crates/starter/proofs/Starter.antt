@@ -5,7 +5,9 @@ use mathlib.Core.Path.{_≡_, refl, sym, ap, _∙_}
 use mathlib.Core.List.{List, _++_}
 use borrow.Author.Tests.{le-leb, lt-leb}
 use lib.ListN.{length, drop}
-use Rattle.limits.specs.Limits.{no-end, work-entries}
+use Rattle.limits.specs.Limits.{no-end, standard}
+use Rattle.limits.specs.Work.{work-entries}
+use Rattle.limits.proofs.Range.{standard-range}
 use Rattle.answers.specs.Outcome.{Outcome, result, refused, nothing, provided}
 use Rattle.answers.specs.Slice.{fitting, written}
 use Rattle.books.specs.Ending.{readEnding}
@@ -24,7 +26,7 @@ bytes = encode (starterCascade .tags) (tableOf starterCascade)
 
 -- ---- computed
 
-pub reads : readEnding starterBook no-end ≡ result starterCascade
+pub reads : readEnding standard starterBook no-end ≡ result starterCascade
 reads = refl
 
 pub computed : (room : ℕ) → starterAnswer room ≡ fitting room bytes
@@ -41,7 +43,7 @@ pub answers : (room : ℕ) → 731 ≤ room → starterAnswer room ≡ result by
 answers room l = computed room ∙ ap (λ t. provided 11 t (result bytes)) (le-leb (length bytes) room (omega (arith, long)))
 
 -- as an equation with compile
-compiles : compileAnswer starterBook no-end 3 (work-entries 3 48 1) 731 ≡ result bytes
+compiles : compileAnswer standard starterBook no-end 3 (work-entries standard 3 48 1) 731 ≡ result bytes
 unfolding starterAnswer
 compiles = answers 731 (omega arith)
 
@@ -57,14 +59,14 @@ front array before after w l e =
 -- "it is what the compiler gives for that book, with no end tag, wherever the ceiling is 3 to 256 and the slices are long enough"
 pub at-every-ceiling : AtEveryCeiling
 at-every-ceiling n work room l m w =
-    let p : Premises starterBook no-end n work starterCascade = record { reads = reads; some = omega arith; most = m; long = w } in
-    demand.greater-ceiling starterBook no-end 3 (work-entries 3 48 1) 731 bytes compiles n work room starterCascade l p
+    let p : Premises standard starterBook no-end n work starterCascade = record { ranged = standard-range; reads = reads; some = omega arith; most = m; long = w } in
+    demand.greater-ceiling standard starterBook no-end 3 (work-entries standard 3 48 1) 731 bytes compiles n work room starterCascade l p
     ∙ sym (computed room)
 
 -- so demand 3 holds of it,
-pub compiled : Compiled starterBook no-end 3 (work-entries 3 48 1) bytes
-compiled = demand.compiled starterBook no-end 3 (work-entries 3 48 1) 731 bytes compiles
+pub compiled : Compiled standard starterBook no-end 3 (work-entries standard 3 48 1) bytes
+compiled = demand.compiled standard starterBook no-end 3 (work-entries standard 3 48 1) 731 bytes compiles
 
 -- and its run is the run of the book, for every sentence and every output slice
-pub same-run : (sentence : List ℕ) (slice : ℕ) → tableRun bytes sentence slice ≡ bookRun starterBook no-end sentence slice
-same-run = runs.same-run starterBook no-end 3 (work-entries 3 48 1) 731 bytes compiles
+pub same-run : (sentence : List ℕ) (slice : ℕ) → tableRun standard bytes sentence slice ≡ bookRun standard starterBook no-end sentence slice
+same-run = runs.same-run standard starterBook no-end 3 (work-entries standard 3 48 1) 731 bytes compiles

@@ -2,7 +2,8 @@
 use Prim.Native.Nat.{ℕ, _≤_}
 use mathlib.Core.Path.{_≡_}
 use mathlib.Core.List.{List, [], _∷_}
-use Rattle.limits.specs.Limits.{most-states, no-end, work-entries}
+use Rattle.limits.specs.Limits.{most-states, no-end, standard}
+use Rattle.limits.specs.Work.{work-entries}
 use Rattle.answers.specs.Outcome.{Outcome}
 use Rattle.cascades.specs.Rule.{Cascade, once}
 use Rattle.compilation.specs.Compile.{compileAnswer}
@@ -18,8 +19,8 @@ starterBook = 0x20 ∷ 48 ∷ 0x21 ∷ 1 ∷ 2 ∷ 0x22 ∷ 0 ∷ 0x22 ∷ 1 ∷
 
 -- what compile answers for it, by the length of the output slice; with the lowest ceiling and the shortest work slice,
 unfoldable pub starterAnswer : ℕ → Outcome (List ℕ)
-starterAnswer room = compileAnswer starterBook no-end 3 (work-entries 3 48 1) room
+starterAnswer room = compileAnswer standard starterBook no-end 3 (work-entries standard 3 48 1) room
 
 -- and "wherever the ceiling is 3 to 256 and the slices are long enough"
 abbrev pub AtEveryCeiling : Type 0
-AtEveryCeiling = (n work room : ℕ) → 3 ≤ n → n ≤ most-states → work-entries n 48 1 ≤ work → compileAnswer starterBook no-end n work room ≡ starterAnswer room
+AtEveryCeiling = (n work room : ℕ) → 3 ≤ n → n ≤ most-states → work-entries standard n 48 1 ≤ work → compileAnswer standard starterBook no-end n work room ≡ starterAnswer room

@@ -4,6 +4,7 @@ use answers::CompileAnswer;
 use answers::Refusal;
 use books::BookAnswer;
 use libc::STDIN_FILENO;
+use limits::STANDARD;
 use printing::put;
 use printing::put_byte;
 use printing::put_number;
@@ -75,14 +76,14 @@ fn put_front(out: &[u8], n: usize) {
 fn answer(book: &[u8]) {
     let mut work = work_slice();
     let mut out = table_slice();
-    match compiler::compile(book, CEILING, &mut work, &mut out) {
+    match compiler::compile(book, CEILING, &mut work, &mut out, STANDARD) {
         CompileAnswer::Table(n) => put_front(&out, n),
         CompileAnswer::Refused(refusal) => put_refusal(refusal),
     }
 }
 
 fn answer_book(book: &[u8]) {
-    match reader::read_book(book) {
+    match reader::read_book(book, STANDARD) {
         BookAnswer::Refused(refusal) => put_refusal(refusal),
         BookAnswer::Book { tags, rules } => {
             if 4 < tags {

@@ -9,7 +9,6 @@ use lib.ListN.{length, drop, getD}
 use lib.Seq.{drop-append-seam}
 use Rattle.words.specs.Word.{Below}
 use Rattle.words.proofs.Word.{below-drop}
-use Rattle.limits.specs.Limits.{most-held}
 use Rattle.answers.specs.Outcome.{Outcome, result}
 use Rattle.answers.proofs.Outcome.{passed, went}
 use Rattle.transducers.specs.Table.{Step, Row}
@@ -36,8 +35,9 @@ pub record GoodStep (k s : ℕ) (v : Step) : Type 0 where
   pub next-below : v .next < s
   pub output-below : Below k (v .output)
 
-pub record GoodRow (k s : ℕ) (r : Row) : Type 0 where
-  pub held : length (r .final) ≤ most-held
+-- a state that holds at most h tags
+pub record GoodRow (h k s : ℕ) (r : Row) : Type 0 where
+  pub held : length (r .final) ≤ h
   pub final-below : Below k (r .final)
   pub whole : length (r .steps) ≡ k
   pub steps : Every (GoodStep k s) (r .steps)
@@ -116,22 +116,34 @@ module _ (k s : ℕ) where
         good = record { next-below = ltb-true (number h l) s (second .0); output-below = word-below 0x34 k bs };
       })
 
-  pub row-read : (bs : List ℕ) (r : Row) → Below 0x100 bs → readRow k s bs ≡ result r → ReadAs (GoodRow k s) rowBytes bs r
+  -- and back: what is encoded is read
+  pub step-at : (h l : ℕ) (bs : List ℕ) → number h l < s
+      → readStep k s (0x33 ∷ h ∷ l ∷ bs) ≡ result (record { next = number h l; output = word 0x34 k bs })
+  step-at h l bs below = cc (lt-ltb (number h l) s below)
+
+  pub step-encoded : (v : Step) (rest : List ℕ) → GoodStep k s v → Stops 0x34 rest → readStep k s (stepBytes v ++ rest) ≡ result v
+  step-encoded v rest g stops =
+      let n = number-bytes (v .next) in
+      step-at (high (v .next)) (low (v .next)) (tagged 0x34 (v .output) ++ rest) (omega (arith, g .next-below))
+      ∙ rw (n, word-tagged 0x34 k (v .output) rest (g .output-below) stops) refl
+
+module _ (h k s : ℕ) where
+  pub row-read : (bs : List ℕ) (r : Row) → Below 0x100 bs → readRow h k s bs ≡ result r → ReadAs (GoodRow h k s) rowBytes bs r
   row-read [] r b e = let z : _≡_ {A = ℕ} 0 1 = cc in absurd (omega arith)
   row-read (c ∷ []) r b e = let z : _≡_ {A = ℕ} 0 1 = cc in absurd (omega arith)
   row-read (c ∷ n ∷ bs) r b e =
       let first = passed 12 (eqb c 0x31) _ r e in
-      let second = passed 12 (leb n most-held) _ r (first .1) in
+      let second = passed 12 (leb n h) _ r (first .1) in
       let third = passed 12 (eqb (length (word 0x32 k bs)) n) _ r (second .1) in
       let w = word 0x32 k bs in
       let rest = drop (length (tagged 0x32 w)) bs in
       let more = went (many (readStep k s) stepBytes k rest) _ r (third .1) in
       let vs = more .first in
-      let tail = many-read (readStep k s) stepBytes (GoodStep k s) step-read k rest vs (below-drop 0x100 (length (tagged 0x32 w)) bs (b .1 .1)) (more .read) in
+      let tail = many-read (readStep k s) stepBytes (GoodStep k s) (step-read k s) k rest vs (below-drop 0x100 (length (tagged 0x32 w)) bs (b .1 .1)) (more .read) in
       let made : Row = record { final = w; steps = vs } in
       let same : made ≡ r = cc (more .then) in
       let held = eqb-true (length w) n (third .0) in
-      let most = leb-true n most-held (second .0) in
+      let most = leb-true n h (second .0) in
       rw (← same)
       (record {
         begins =
@@ -144,37 +156,27 @@ module _ (k s : ℕ) where
             record { held = omega (arith, held, most); final-below = word-below 0x32 k bs; whole = tail .0; steps = tail .1 .good };
       })
 
-  -- and back: what is encoded is read
-  pub step-at : (h l : ℕ) (bs : List ℕ) → number h l < s
-      → readStep k s (0x33 ∷ h ∷ l ∷ bs) ≡ result (record { next = number h l; output = word 0x34 k bs })
-  step-at h l bs below = cc (lt-ltb (number h l) s below)
-
-  pub step-encoded : (v : Step) (rest : List ℕ) → GoodStep k s v → Stops 0x34 rest → readStep k s (stepBytes v ++ rest) ≡ result v
-  step-encoded v rest g stops =
-      let n = number-bytes (v .next) in
-      step-at (high (v .next)) (low (v .next)) (tagged 0x34 (v .output) ++ rest) (omega (arith, g .next-below))
-      ∙ rw (n, word-tagged 0x34 k (v .output) rest (g .output-below) stops) refl
-
-  pub row-at : (n : ℕ) (bs : List ℕ) (vs : List Step) → n ≤ most-held → length (word 0x32 k bs) ≡ n
+  -- and back
+  pub row-at : (n : ℕ) (bs : List ℕ) (vs : List Step) → n ≤ h → length (word 0x32 k bs) ≡ n
       → many (readStep k s) stepBytes k (drop (length (tagged 0x32 (word 0x32 k bs))) bs) ≡ result vs
-      → readRow k s (0x31 ∷ n ∷ bs) ≡ result (record { final = word 0x32 k bs; steps = vs })
-  row-at n bs vs most held e = cc (le-leb n most-held most, eq-eqb (length (word 0x32 k bs)) n held, e)
+      → readRow h k s (0x31 ∷ n ∷ bs) ≡ result (record { final = word 0x32 k bs; steps = vs })
+  row-at n bs vs most held e = cc (le-leb n h most, eq-eqb (length (word 0x32 k bs)) n held, e)
 
   -- there is a step
   final-stops : (vs : List Step) (rest : List ℕ) → length vs ≡ k → 0 < k → Stops 0x32 (joined stepBytes vs ++ rest)
   final-stops [] rest e p = absurd (omega arith)
   final-stops (v ∷ vs) rest e p = λ z. omega arith
 
-  pub row-encoded : (r : Row) (rest : List ℕ) → 0 < k → GoodRow k s r → Stops 0x34 rest → readRow k s (rowBytes r ++ rest) ≡ result r
+  pub row-encoded : (r : Row) (rest : List ℕ) → 0 < k → GoodRow h k s r → Stops 0x34 rest → readRow h k s (rowBytes r ++ rest) ≡ result r
   row-encoded r rest p g st =
       let tail = joined stepBytes (r .steps) ++ rest in
       let w = word-tagged 0x32 k (r .final) tail (g .final-below) (final-stops (r .steps) rest (g .whole) p) in
       let steps =
-      many-encoded (readStep k s) stepBytes (GoodStep k s) (Stops 0x34) step-encoded (λ v z e. omega arith) (r .steps) rest (g .steps) st in
+      many-encoded (readStep k s) stepBytes (GoodStep k s) (Stops 0x34) (step-encoded k s) (λ v z e. omega arith) (r .steps) rest (g .steps) st in
       let on = drop-append-seam (tagged 0x32 (r .final)) tail in
       let read : many (readStep k s) stepBytes k (drop (length (tagged 0x32 (word 0x32 k (tagged 0x32 (r .final) ++ tail)))) (tagged 0x32 (r .final) ++ tail)) ≡ result (r .steps)
       = rw (w, on) (rw (g .whole) at steps) in
       subst
-      (λ (z : List ℕ). readRow k s (0x31 ∷ length (r .final) ∷ z) ≡ result r)
+      (λ (z : List ℕ). readRow h k s (0x31 ∷ length (r .final) ∷ z) ≡ result r)
       (sym (append-assoc (tagged 0x32 (r .final)) (joined stepBytes (r .steps)) rest))
       (row-at (length (r .final)) (tagged 0x32 (r .final) ++ tail) (r .steps) (g .held) (ap length w) read ∙ rw w refl)

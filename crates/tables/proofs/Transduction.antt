@@ -5,13 +5,14 @@ use mathlib.Core.Path.{_≡_, ap}
 use mathlib.Core.List.{List}
 use lib.ListN.{length}
 use Rattle.words.specs.Word.{Below}
+use Rattle.limits.specs.declared.Limits.{Limits}
 use Rattle.transducers.specs.Transducer.{puts}
 use Rattle.transducers.specs.Table.{Table, shape}
 use Rattle.transducers.specs.Canonical.{Sound}
 use Rattle.transducers.proofs.Run.{puts-length, puts-below}
 use Rattle.tables.specs.Valid.{ValidTable}
 
-module _ (k : ℕ) (t : Table) (v : ValidTable k t) where
+module _ {lim : Limits} (k : ℕ) (t : Table) (v : ValidTable lim k t) where
   pub sound : Sound k (shape t)
   sound =
       record {

@@ -1,11 +1,13 @@
--- Reading the bytes of a table. "12: table not well formed"; the theorem in proofs/Theorem.antt says that what is read are the
+-- Reading the bytes of a table, with the limits of the call. "12: table not well formed"; the theorem in proofs/Theorem.antt says that what is read are the
 -- encodings of valid tables and nothing else.
 use Prim.Native.Nat.{ℕ, zero, suc, _+_}
 use mathlib.Core.Bool.{Bool, true, false}
 use mathlib.Core.List.{List, [], _∷_}
 use lib.Dec.{eqb, leb, ltb}
 use lib.ListN.{length, drop}
-use Rattle.limits.specs.Limits.{fewest-tags, most-tags, most-states, most-held}
+use Rattle.limits.specs.Limits.{fewest-tags, most-states, most-held}
+use Rattle.limits.specs.Within.{within}
+use Rattle.limits.specs.declared.Limits.{Limits}
 use Rattle.answers.specs.Outcome.{Outcome, result, refused, nothing, andThen, provided}
 use Rattle.transducers.specs.Table.{Step, Row, Table, row}
 use Rattle.tables.specs.Bytes.{number, tagged, joined, stepBytes, rowBytes}
@@ -40,13 +42,13 @@ many read bytes zero bs = result []
 many read bytes (suc n) bs =
     andThen (read bs) (λ v. andThen (many read bytes n (drop (length (bytes v)) bs)) (λ vs. result (v ∷ vs)))
 
--- a state
-abbrev pub readRow : ℕ → ℕ → List ℕ → Outcome Row
-readRow k s [] = malformed
-readRow k s (c ∷ []) = malformed
-readRow k s (c ∷ n ∷ bs) =
+-- a state, which holds at most h tags
+abbrev pub readRow : ℕ → ℕ → ℕ → List ℕ → Outcome Row
+readRow h k s [] = malformed
+readRow h k s (c ∷ []) = malformed
+readRow h k s (c ∷ n ∷ bs) =
     provided 12 (eqb c 0x31)
-    (provided 12 (leb n most-held)
+    (provided 12 (leb n h)
     (provided 12 (eqb (length (word 0x32 k bs)) n)
     (andThen (many (readStep k s) stepBytes k (drop (length (tagged 0x32 (word 0x32 k bs))) bs))
     (λ vs. result (record { final = word 0x32 k bs; steps = vs })))))
@@ -69,20 +71,24 @@ rowsBalanced t (r ∷ rs) =
     elim (stepsBalanced t (length (r .final)) (r .steps)) [ false ↦ false | true ↦ rowsBalanced t rs ]
 
 -- the states after the head, the end, and what the states' held tags ask
-abbrev pub readTable : ℕ → ℕ → List ℕ → Outcome Decoded
-readTable k s bs =
-    andThen (many (readRow k s) rowBytes s bs)
+abbrev pub readTable : ℕ → ℕ → ℕ → List ℕ → Outcome Decoded
+readTable h k s bs =
+    andThen (many (readRow h k s) rowBytes s bs)
     (λ t. provided 12 (ended (drop (length (joined rowBytes t)) bs))
     (provided 12 (eqb (length (row t 0 .final)) 0)
     (provided 12 (rowsBalanced t t) (result (record { tags = k; table = t })))))
 
-abbrev pub decode : List ℕ → Outcome Decoded
-decode [] = malformed
-decode (c ∷ []) = malformed
-decode (c ∷ k ∷ []) = malformed
-decode (c ∷ k ∷ h ∷ []) = malformed
-decode (c ∷ k ∷ h ∷ l ∷ bs) =
+abbrev pub decode : Limits → List ℕ → Outcome Decoded
+decode lim [] = malformed
+decode lim (c ∷ []) = malformed
+decode lim (c ∷ k ∷ []) = malformed
+decode lim (c ∷ k ∷ h ∷ []) = malformed
+decode lim (c ∷ k ∷ h ∷ l ∷ bs) =
     provided 12 (eqb c 0x30)
     (provided 12 (leb fewest-tags k)
-    (provided 12 (leb k most-tags)
-    (provided 12 (leb 1 (number h l)) (provided 12 (leb (number h l) most-states) (readTable k (number h l) bs)))))
+    (provided 12 (leb k (lim .tags))
+    (provided 12 (leb 1 (number h l)) (provided 12 (leb (number h l) most-states) (readTable (most-held lim) k (number h l) bs)))))
+
+-- what a call that is given a table begins with: 17, then 12
+abbrev pub decodeWithin : Limits → List ℕ → Outcome Decoded
+decodeWithin lim bytes = within lim (decode lim bytes)

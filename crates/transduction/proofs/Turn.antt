@@ -7,11 +7,14 @@ use mathlib.Core.List.{List, [], _∷_, _++_, append-assoc}
 use lib.ListN.{length, take, drop, getD}
 use lib.Seq.{drop-length, take-length, paste}
 use Rattle.words.proofs.Word.{drop-step, below-at}
+use Rattle.limits.specs.Limits.{most-held}
+use Rattle.limits.specs.declared.Limits.{Limits}
 use Rattle.answers.specs.Outcome.{Outcome}
 use Rattle.transducers.specs.Transducer.{puts}
 use Rattle.transducers.specs.Table.{Step, Table, row, step, shape}
 use Rattle.tables.specs.Valid.{ValidTable}
-use Rattle.tables.specs.Decode.{Decoded, decode}
+use Rattle.tables.specs.Decode.{Decoded, decodeWithin}
+use Rattle.tables.proofs.Outcomes.{read-few}
 use Rattle.steps.specs.Entry.{countOf, placeOf, baseOf, TagsAt, EntryOf, FinalEntry}
 use Rattle.steps.proofs.Places.{row-inside}
 use Rattle.transduction.specs.Parts.{WordPut, Runnable, made}
@@ -24,7 +27,7 @@ pub record Running (k : ℕ) (t : Table) (sentence out : List ℕ) (i at base : 
   pub placed : at + length (row t state .final) ≡ i
   pub so-far : take at out ++ puts (shape t) state (drop i sentence) ≡ puts (shape t) 0 sentence
 
-pub running-start : (k : ℕ) (t : Table) (sentence out : List ℕ) → ValidTable k t → Running k t sentence out 0 0 1
+pub running-start : {lim : Limits} (k : ℕ) (t : Table) (sentence out : List ℕ) → ValidTable lim k t → Running k t sentence out 0 0 1
 running-start k t sentence out v =
     record {
       state = 0;
@@ -35,14 +38,14 @@ running-start k t sentence out v =
     }
 
 -- what the run's loop keeps
-pub record Going (bs ix sentence out₀ out : List ℕ) (i at base : ℕ) : Type 0 where
-  pub ready : Runnable bs ix sentence out₀
+pub record Going (lim : Limits) (bs ix sentence out₀ out : List ℕ) (i at base : ℕ) : Type 0 where
+  pub ready : Runnable lim bs ix sentence out₀
   pub inside : i ≤ length sentence
   pub long : length out ≡ length out₀
   pub kept : drop (length sentence) out ≡ drop (length sentence) out₀
   pub running : Running (ready .tags) (ready .loaded .table) sentence out i at base
 
-pub going-start : (bs ix sentence out : List ℕ) → Runnable bs ix sentence out → Going bs ix sentence out out 0 0 1
+pub going-start : {lim : Limits} (bs ix sentence out : List ℕ) → Runnable lim bs ix sentence out → Going lim bs ix sentence out out 0 0 1
 going-start bs ix sentence out p =
     record {
       ready = p;
@@ -53,8 +56,8 @@ going-start bs ix sentence out p =
     }
 
 -- a turn of the run: the sentence's tag at i is read in the state
-module _ {bs ix sentence out₀ out : List ℕ} {i at base : ℕ} (g : Going bs ix sentence out₀ out i at base) where
-  abbrev p : Runnable bs ix sentence out₀
+module _ {lim : Limits} {bs ix sentence out₀ out : List ℕ} {i at base : ℕ} (g : Going lim bs ix sentence out₀ out i at base) where
+  abbrev p : Runnable lim bs ix sentence out₀
   p = g .ready
 
   abbrev r : Running (g .ready .tags) (g .ready .loaded .table) sentence out i at base
@@ -68,6 +71,9 @@ module _ {bs ix sentence out₀ out : List ℕ} {i at base : ℕ} (g : Going bs 
 
   abbrev q : ℕ
   q = r .state
+
+  few : most-held lim ≤ 112
+  few = read-few lim bs _ (p .loaded .decodes)
 
   inside : q * (k + 1) + k < length ix
   inside = row-inside q (length t) k (length ix) (r .below) (p .loaded .room)
@@ -95,7 +101,7 @@ module _ {bs ix sentence out₀ out : List ℕ} {i at base : ℕ} (g : Going bs 
           rw (entry, at-cell) (p .loaded .cells q (r .below) .steps a a-below)
 
       pub turn-short : length (v .output) < 0xff
-      turn-short = omega (arith, balance, p .loaded .valid .held q (r .below))
+      turn-short = omega (arith, balance, p .loaded .valid .held q (r .below), few)
 
       pub turn-place : (countOf e ≡ 1 → ⊥) → placeOf e + 2 * countOf e ≤ length bs + 1
       turn-place n = omega (arith, turn-cell .stands (λ o. n (omega (arith, turn-cell .count-is))) .inside, turn-cell .count-is)
@@ -124,7 +130,7 @@ module _ {bs ix sentence out₀ out : List ℕ} {i at base : ℕ} (g : Going bs 
                   ∙ r .so-far;
             }
 
-        pub turn-next : (base' : ℕ) → base' ≡ baseOf e → length out' ≡ length out → Going bs ix sentence out₀ out' (i + 1) at' base'
+        pub turn-next : (base' : ℕ) → base' ≡ baseOf e → length out' ≡ length out → Going lim bs ix sentence out₀ out' (i + 1) at' base'
         turn-next base' b same =
             record {
               ready = p;
@@ -152,7 +158,7 @@ module _ {bs ix sentence out₀ out : List ℕ} {i at base : ℕ} (g : Going bs 
           rw (entry, at-cell) (p .loaded .cells q (r .below) .final)
 
       end-length : length w ≡ countOf e
-      end-length = omega (arith, end-cell .count-is, p .loaded .valid .held q (r .below))
+      end-length = omega (arith, end-cell .count-is, p .loaded .valid .held q (r .below), few)
 
       pub end-place : placeOf e + 2 * countOf e ≤ length bs + 1
       end-place = omega (arith, end-cell .stands .inside, end-length)
@@ -165,7 +171,7 @@ module _ {bs ix sentence out₀ out : List ℕ} {i at base : ℕ} (g : Going bs 
           → place ≡ placeOf e
           → count ≡ countOf e
           → ((u : List ℕ) → length u ≡ count → TagsAt bs place u → out' ≡ paste out at u count)
-          → out' ≡ made (decode bs) sentence ++ drop (length sentence) out₀
+          → out' ≡ made (decodeWithin lim bs) sentence ++ drop (length sentence) out₀
       end-made place count out' p≡ c≡ f =
           let n : length w ≡ count = omega (arith, end-length) in
           let whole : out' ≡ paste out at w count = f w n (rw p≡ (end-cell .stands)) in

@@ -2,6 +2,7 @@
 use answers::Refusal;
 use answers::RunAnswer;
 use decoder::TableAnswer;
+use limits::Limits;
 use sentences::Admission;
 use steps::base_of;
 use steps::count_of;
@@ -15,7 +16,7 @@ ghost use lib.ListN.{length, drop};
 ghost use lib.Seq.{paste};
 ghost use Rattle.limits.specs.Limits.{most-tags, most-states};
 ghost use Rattle.sentences.specs.Run.{Ran};
-ghost use Rattle.tables.specs.Decode.{decode};
+ghost use Rattle.tables.specs.Decode.{decodeWithin};
 ghost use Rattle.tables.specs.Run.{tableRun, sizeOf};
 ghost use Rattle.decoder.specs.Answer.{tableOutcome};
 ghost use Rattle.steps.specs.Entry.{countOf, placeOf, TagsAt, EntryOf};
@@ -49,9 +50,9 @@ pub fn put(table: &[u8], e: u64, out: &mut [u8], at: usize) -> usize
 }
 
 // The words put out from state 0, and the final word.
-fn transduce(table: &[u8], index: &[u64], sentence: &[u8], out: &mut [u8])
-    requires { ⌜ Runnable (now table) (now index) (now sentence) (now out) ⌝ }
-    ensures { λ r. ⌜ now (out .exit) ≡ made (decode (now (table .entry))) (now (sentence .entry)) ++ drop (length (now (sentence .entry))) (now (out .entry)) ⌝ }
+fn transduce(table: &[u8], index: &[u64], sentence: &[u8], out: &mut [u8], lim: Limits)
+    requires { ⌜ Runnable lim (now table) (now index) (now sentence) (now out) ⌝ }
+    ensures { λ r. ⌜ now (out .exit) ≡ made (decodeWithin lim (now (table .entry))) (now (sentence .entry)) ++ drop (length (now (sentence .entry))) (now (out .entry)) ⌝ }
 {
     let mut base = 1;
     let mut at = 0;
@@ -67,15 +68,22 @@ fn transduce(table: &[u8], index: &[u64], sentence: &[u8], out: &mut [u8])
 }
 
 // The run of a table that is read.
-fn run_loaded(table: &[u8], k: usize, index: &[u64], sentence: &[u8], out: &mut [u8]) -> RunAnswer
-    requires { ⌜ Loaded (now table) k (now index) ⌝ }
-    ensures { λ r. ⌜ Ran (tableRun (now (table .entry)) (now (sentence .entry)) (length (now (out .entry)))) (now (sentence .entry)) (now (out .entry)) (now (out .exit)) r ⌝ }
+fn run_loaded(
+    table: &[u8],
+    k: usize,
+    index: &[u64],
+    sentence: &[u8],
+    out: &mut [u8],
+    lim: Limits,
+) -> RunAnswer
+    requires { ⌜ Loaded lim (now table) k (now index) ⌝ }
+    ensures { λ r. ⌜ Ran (tableRun lim (now (table .entry)) (now (sentence .entry)) (length (now (out .entry)))) (now (sentence .entry)) (now (out .entry)) (now (out .exit)) r ⌝ }
 {
     let admission = sentences::admit(sentence, k as u8, out.len());
     if let Admission::Refused(r) = admission {
         return RunAnswer::Refused(r);
     }
-    transduce(table, index, sentence, out);
+    transduce(table, index, sentence, out, lim);
     let n = sentence.len();
     RunAnswer::Changed(sentences::count_changes(sentence, &out[..n]))
 }
@@ -95,17 +103,18 @@ fn tell_within(
     sentence: &[u8],
     out: &mut [u8],
     index: &mut [u64],
+    lim: Limits,
 ) -> Told
-    requires { ⌜ Head (now table) k s × (cell < s * (k + 1)) × (s * (k + 1) ≤ length (now index)) ⌝ }
-    ensures { λ r. ⌜ Tells (now (table .entry)) k cell (now (sentence .entry)) (now (out .entry)) (now (out .exit)) r ⌝ }
+    requires { ⌜ Head lim (now table) k s × (cell < s * (k + 1)) × (s * (k + 1) ≤ length (now index)) ⌝ }
+    ensures { λ r. ⌜ Tells lim (now (table .entry)) k cell (now (sentence .entry)) (now (out .entry)) (now (out .exit)) r ⌝ }
 {
-    if !decoder::load(table, k, s, index) {
+    if !decoder::load(table, k, s, index, lim) {
         return Told {
             answer: RunAnswer::Refused(Refusal::Bare { number: 12 }),
             entry: 0,
         };
     }
-    let answer = run_loaded(table, k, index, sentence, out);
+    let answer = run_loaded(table, k, index, sentence, out, lim);
     Told {
         answer,
         entry: index[cell],
@@ -126,12 +135,13 @@ fn tell_small(
     cell: usize,
     sentence: &[u8],
     out: &mut [u8],
+    lim: Limits,
 ) -> Told
-    requires { ⌜ Head (now table) k s × (cell < s * (k + 1)) × (s * (k + 1) ≤ 192) ⌝ }
-    ensures { λ r. ⌜ Tells (now (table .entry)) k cell (now (sentence .entry)) (now (out .entry)) (now (out .exit)) r ⌝ }
+    requires { ⌜ Head lim (now table) k s × (cell < s * (k + 1)) × (s * (k + 1) ≤ 192) ⌝ }
+    ensures { λ r. ⌜ Tells lim (now (table .entry)) k cell (now (sentence .entry)) (now (out .entry)) (now (out .exit)) r ⌝ }
 {
     let mut index = [0u64; SMALL];
-    tell_within(table, k, s, cell, sentence, out, &mut index)
+    tell_within(table, k, s, cell, sentence, out, &mut index, lim)
 }
 
 fn tell_middle(
@@ -141,20 +151,29 @@ fn tell_middle(
     cell: usize,
     sentence: &[u8],
     out: &mut [u8],
+    lim: Limits,
 ) -> Told
-    requires { ⌜ Head (now table) k s × (cell < s * (k + 1)) × (s * (k + 1) ≤ 1024) ⌝ }
-    ensures { λ r. ⌜ Tells (now (table .entry)) k cell (now (sentence .entry)) (now (out .entry)) (now (out .exit)) r ⌝ }
+    requires { ⌜ Head lim (now table) k s × (cell < s * (k + 1)) × (s * (k + 1) ≤ 1024) ⌝ }
+    ensures { λ r. ⌜ Tells lim (now (table .entry)) k cell (now (sentence .entry)) (now (out .entry)) (now (out .exit)) r ⌝ }
 {
     let mut index = [0u64; MIDDLE];
-    tell_within(table, k, s, cell, sentence, out, &mut index)
+    tell_within(table, k, s, cell, sentence, out, &mut index, lim)
 }
 
-fn tell_big(table: &[u8], k: usize, s: usize, cell: usize, sentence: &[u8], out: &mut [u8]) -> Told
-    requires { ⌜ Head (now table) k s × (cell < s * (k + 1)) × (s * (k + 1) ≤ 4096) ⌝ }
-    ensures { λ r. ⌜ Tells (now (table .entry)) k cell (now (sentence .entry)) (now (out .entry)) (now (out .exit)) r ⌝ }
+fn tell_big(
+    table: &[u8],
+    k: usize,
+    s: usize,
+    cell: usize,
+    sentence: &[u8],
+    out: &mut [u8],
+    lim: Limits,
+) -> Told
+    requires { ⌜ Head lim (now table) k s × (cell < s * (k + 1)) × (s * (k + 1) ≤ 4096) ⌝ }
+    ensures { λ r. ⌜ Tells lim (now (table .entry)) k cell (now (sentence .entry)) (now (out .entry)) (now (out .exit)) r ⌝ }
 {
     let mut index = [0u64; BIG];
-    tell_within(table, k, s, cell, sentence, out, &mut index)
+    tell_within(table, k, s, cell, sentence, out, &mut index, lim)
 }
 
 fn tell_large(
@@ -164,12 +183,13 @@ fn tell_large(
     cell: usize,
     sentence: &[u8],
     out: &mut [u8],
+    lim: Limits,
 ) -> Told
-    requires { ⌜ Head (now table) k s × (cell < s * (k + 1)) × (s * (k + 1) ≤ most-states * (most-tags + 1)) ⌝ }
-    ensures { λ r. ⌜ Tells (now (table .entry)) k cell (now (sentence .entry)) (now (out .entry)) (now (out .exit)) r ⌝ }
+    requires { ⌜ Head lim (now table) k s × (cell < s * (k + 1)) × (s * (k + 1) ≤ most-states * (most-tags + 1)) ⌝ }
+    ensures { λ r. ⌜ Tells lim (now (table .entry)) k cell (now (sentence .entry)) (now (out .entry)) (now (out .exit)) r ⌝ }
 {
     let mut index = [0u64; decoder::ENTRIES];
-    tell_within(table, k, s, cell, sentence, out, &mut index)
+    tell_within(table, k, s, cell, sentence, out, &mut index, lim)
 }
 
 // Of a table that needs more than the small index. The function calls itself in a branch that is never taken: so the compiler
@@ -181,53 +201,64 @@ fn tell_beyond(
     cell: usize,
     sentence: &[u8],
     out: &mut [u8],
+    lim: Limits,
 ) -> Told
-    requires { ⌜ Head (now table) k s × (cell < s * (k + 1)) ⌝ }
-    ensures { λ r. ⌜ Tells (now (table .entry)) k cell (now (sentence .entry)) (now (out .entry)) (now (out .exit)) r ⌝ }
+    requires { ⌜ Head lim (now table) k s × (cell < s * (k + 1)) ⌝ }
+    ensures { λ r. ⌜ Tells lim (now (table .entry)) k cell (now (sentence .entry)) (now (out .entry)) (now (out .exit)) r ⌝ }
 {
     if limits::TAGS < k {
-        return tell_beyond(table, k, s, cell, sentence, out);
+        return tell_beyond(table, k, s, cell, sentence, out, lim);
     }
     let n = decoder::entries(k, s);
     if n <= MIDDLE {
-        return tell_middle(table, k, s, cell, sentence, out);
+        return tell_middle(table, k, s, cell, sentence, out, lim);
     }
     if n <= BIG {
-        return tell_big(table, k, s, cell, sentence, out);
+        return tell_big(table, k, s, cell, sentence, out, lim);
     }
-    tell_large(table, k, s, cell, sentence, out)
+    tell_large(table, k, s, cell, sentence, out, lim)
 }
 
-fn tell(table: &[u8], k: usize, s: usize, cell: usize, sentence: &[u8], out: &mut [u8]) -> Told
-    requires { ⌜ Head (now table) k s × (cell < s * (k + 1)) ⌝ }
-    ensures { λ r. ⌜ Tells (now (table .entry)) k cell (now (sentence .entry)) (now (out .entry)) (now (out .exit)) r ⌝ }
+fn tell(
+    table: &[u8],
+    k: usize,
+    s: usize,
+    cell: usize,
+    sentence: &[u8],
+    out: &mut [u8],
+    lim: Limits,
+) -> Told
+    requires { ⌜ Head lim (now table) k s × (cell < s * (k + 1)) ⌝ }
+    ensures { λ r. ⌜ Tells lim (now (table .entry)) k cell (now (sentence .entry)) (now (out .entry)) (now (out .exit)) r ⌝ }
 {
     if decoder::entries(k, s) <= SMALL {
-        return tell_small(table, k, s, cell, sentence, out);
+        return tell_small(table, k, s, cell, sentence, out, lim);
     }
-    tell_beyond(table, k, s, cell, sentence, out)
+    tell_beyond(table, k, s, cell, sentence, out, lim)
 }
 
-// Runs a table over a sentence: the number of changed tags, or 12, 13, 4 or 11 in that order.
-pub fn run_table(table: &[u8], sentence: &[u8], out: &mut [u8]) -> RunAnswer
-    ensures { λ r. ⌜ Ran (tableRun (now (table .entry)) (now (sentence .entry)) (length (now (out .entry)))) (now (sentence .entry)) (now (out .entry)) (now (out .exit)) r ⌝ }
+// Runs a table over a sentence: the number of changed tags, or 17, 12, 13, 4 or 11 in that order.
+pub fn run_table(table: &[u8], sentence: &[u8], out: &mut [u8], lim: Limits) -> RunAnswer
+    ensures { λ r. ⌜ Ran (tableRun lim (now (table .entry)) (now (sentence .entry)) (length (now (out .entry)))) (now (sentence .entry)) (now (out .entry)) (now (out .exit)) r ⌝ }
 {
-    let got = decoder::read_head(table);
-    let TableAnswer::Table { tags, states } = got else {
-        return RunAnswer::Refused(Refusal::Bare { number: 12 });
-    };
-    let told = tell(table, tags, states, 0, sentence, out);
-    told.answer
+    let got = decoder::read_head(table, lim);
+    match got {
+        TableAnswer::Table { tags, states } => {
+            let told = tell(table, tags, states, 0, sentence, out, lim);
+            told.answer
+        }
+        TableAnswer::Refused(r) => RunAnswer::Refused(r),
+    }
 }
 
-// A table's K, S and the entry of a cell, or that it is none.
+// A table's K, S and the entry of a cell, or 17 or 12.
 pub enum Found {
     Entry {
         tags: usize,
         states: usize,
         entry: u64,
     },
-    Malformed,
+    Refused(Refusal),
 }
 
 // The cell of a state's column: 0 is its final word, 1 + a its step on the tag a. The first cell where there is no such state or column.
@@ -244,35 +275,43 @@ fn cell_of(state: usize, column: usize, k: usize, s: usize) -> usize
     state * (k + 1) + column
 }
 
-// Reads a table and finds the entry of a state's column. No sentence of no tags is refused.
-pub fn find_entry(table: &[u8], state: usize, column: usize) -> Found
-    ensures { λ r. ⌜ FoundIn (now (table .entry)) state column r ⌝ }
+// The entry of a state's column, of a table whose head is read. No sentence of no tags is refused.
+fn find_read(table: &[u8], k: usize, s: usize, state: usize, column: usize, lim: Limits) -> Found
+    requires { ⌜ Head lim (now table) k s ⌝ }
+    ensures { λ r. ⌜ FoundIn lim (now (table .entry)) state column r ⌝ }
 {
-    let got = decoder::read_head(table);
-    let TableAnswer::Table { tags, states } = got else {
-        return Found::Malformed;
-    };
     let mut out = [0u8; 1];
-    let cell = cell_of(state, column, tags, states);
-    let told = tell(table, tags, states, cell, &table[..0], &mut out);
+    let cell = cell_of(state, column, k, s);
+    let told = tell(table, k, s, cell, &table[..0], &mut out, lim);
     let answer = told.answer;
     let RunAnswer::Changed(_) = answer else {
-        return Found::Malformed;
+        return Found::Refused(Refusal::Bare { number: 12 });
     };
     Found::Entry {
-        tags,
-        states,
+        tags: k,
+        states: s,
         entry: told.entry,
     }
 }
 
-// Reads a table: its K and S, or 12.
-pub fn read_table(table: &[u8]) -> TableAnswer
-    ensures { λ r. ⌜ tableOutcome r ≡ sizeOf (now (table .entry)) ⌝ }
+// Reads a table and finds the entry of a state's column.
+pub fn find_entry(table: &[u8], state: usize, column: usize, lim: Limits) -> Found
+    ensures { λ r. ⌜ FoundIn lim (now (table .entry)) state column r ⌝ }
 {
-    let found = find_entry(table, 0, 0);
-    let Found::Entry { tags, states, .. } = found else {
-        return TableAnswer::Refused(Refusal::Bare { number: 12 });
-    };
-    TableAnswer::Table { tags, states }
+    let got = decoder::read_head(table, lim);
+    match got {
+        TableAnswer::Table { tags, states } => find_read(table, tags, states, state, column, lim),
+        TableAnswer::Refused(r) => Found::Refused(r),
+    }
+}
+
+// Reads a table: its K and S, or 17 or 12.
+pub fn read_table(table: &[u8], lim: Limits) -> TableAnswer
+    ensures { λ r. ⌜ tableOutcome r ≡ sizeOf lim (now (table .entry)) ⌝ }
+{
+    let found = find_entry(table, 0, 0, lim);
+    match found {
+        Found::Entry { tags, states, .. } => TableAnswer::Table { tags, states },
+        Found::Refused(r) => TableAnswer::Refused(r),
+    }
 }

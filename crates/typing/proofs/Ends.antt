@@ -7,9 +7,10 @@ use borrow.Author.Tests.{ltb-true, ltb-false, leb-false}
 use lib.Dec.{leb, ltb}
 use lib.ListN.{length}
 use Rattle.limits.specs.Limits.{longest-sentence}
+use Rattle.limits.specs.declared.Limits.{Limits}
 use Rattle.answers.specs.Outcome.{Outcome, result, refused, nothing, andThen, provided}
 use Rattle.transducers.specs.Table.{Step, row, step}
-use Rattle.tables.specs.Decode.{Decoded, decode}
+use Rattle.tables.specs.Decode.{Decoded, decodeWithin}
 use Rattle.typing.specs.Typing.{stepped, held}
 use Rattle.typing.specs.declared.Sentence.{Sentence}
 use Rattle.typing.proofs.Stands.{Taken}
@@ -31,7 +32,7 @@ pub data HoldEnds (d : Decoded) (s : Sentence) (room : ℕ) : Outcome (List ℕ)
   no-room : s .state < length (d .table) → room < length (row (d .table) (s .state) .final) → HoldEnds d s room (refused 11 nothing)
   held-out : s .closed ≡ false → s .state < length (d .table) → HoldEnds d s room (result (row (d .table) (s .state) .final))
 
-module _ (table : List ℕ) (d : Decoded) (decodes : decode table ≡ result d) (s : Sentence) where
+module _ (lim : Limits) (table : List ℕ) (d : Decoded) (decodes : decodeWithin lim table ≡ result d) (s : Sentence) where
   abbrev n : ℕ
   n = length (d .table)
 
@@ -41,7 +42,7 @@ module _ (table : List ℕ) (d : Decoded) (decodes : decode table ≡ result d) 
   abbrev w : List ℕ
   w = row (d .table) (s .state) .final
 
-  pub give-ends : (a room : ℕ) → GiveEnds d s a room (stepped table s a room)
+  pub give-ends : (a room : ℕ) → GiveEnds d s a room (stepped lim table s a room)
   give-ends a room =
       rw decodes
       (by (s .closed) (ltb (s .state) n) (ltb (s .given) longest-sentence) (ltb a (d .tags)) (leb (length (v a .output)) room) refl refl refl refl refl)
@@ -73,7 +74,7 @@ module _ (table : List ℕ) (d : Decoded) (decodes : decode table ≡ result d) 
             below = ltb-true a (d .tags) t;
           })
 
-  pub hold-ends : (room : ℕ) → HoldEnds d s room (held table s room)
+  pub hold-ends : (room : ℕ) → HoldEnds d s room (held lim table s room)
   hold-ends room = rw decodes (by (s .closed) (ltb (s .state) n) (leb (length w) room) refl refl refl)
     where
       by : (b c g : Bool) → s .closed ≡ b → ltb (s .state) n ≡ c → leb (length w) room ≡ g

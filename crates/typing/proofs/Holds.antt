@@ -9,6 +9,7 @@ use borrow.Author.Tests.{le-leb, lt-leb}
 use lib.Dec.{leb}
 use lib.ListN.{length, take}
 use lib.Seq.{paste, take-length}
+use Rattle.limits.specs.declared.Limits.{Limits}
 use Rattle.answers.specs.Outcome.{Outcome, result, refused, nothing, andThen}
 use Rattle.answers.specs.Slice.{fitting, longOf, written}
 use Rattle.answers.specs.Answer.{refusal, writeOutcome, Filled}
@@ -19,25 +20,29 @@ use Rattle.answers.specs.declared.Refusal.the-variants.{Bare}
 use Rattle.answers.specs.declared.WriteAnswer.{WriteAnswer}
 use Rattle.answers.specs.declared.WriteAnswer.the-variants.{Written, Refused}
 use Rattle.transducers.specs.Table.{row}
-use Rattle.tables.specs.Decode.{decode, malformed}
+use Rattle.tables.specs.Decode.{Decoded, decodeWithin}
 use Rattle.steps.specs.Entry.{countOf, placeOf, TagsAt, FinalEntry}
 use Rattle.transduction.specs.Parts.{CellRead}
 use Rattle.typing.specs.Typing.{standing, held, close, shut, Hands}
 use Rattle.typing.specs.declared.Sentence.{Sentence}
 use Rattle.typing.proofs.Stands.{stands}
 
-module _ (bs : List ℕ) (x : Sentence) (out : List ℕ) where
+module _ (lim : Limits) (bs : List ℕ) (x : Sentence) (out : List ℕ) where
   abbrev outcome : Outcome (List ℕ)
-  outcome = held bs x (length out)
+  outcome = held lim bs x (length out)
 
-  pub held-malformed : decode bs ≡ malformed → Filled outcome out out (Refused (Bare 12))
-  held-malformed e = filled-refused outcome out (Bare 12) (rw e refl)
+  abbrev after-reading : Decoded → Outcome (List ℕ)
+  after-reading d = andThen (standing x (length (d .table))) (λ y. fitting (length out) (row (d .table) (x .state) .final))
 
-  module _ (k s e : ℕ) (u : CellRead bs (x .state) 0 k s e) where
+  pub held-unread : (r : Refusal) → decodeWithin lim bs ≡ refusal r → Filled outcome out out (Refused r)
+  held-unread r e =
+      filled-refused outcome out r (ap (λ (o : Outcome Decoded). andThen o after-reading) e ∙ refusal-then r after-reading)
+
+  module _ (k s e : ℕ) (u : CellRead lim bs (x .state) 0 k s e) where
     abbrev w : List ℕ
     w = row (u .table) (x .state) .final
 
-    holds : held bs x (length out) ≡ andThen (standing x s) (λ y. fitting (length out) w)
+    holds : held lim bs x (length out) ≡ andThen (standing x s) (λ y. fitting (length out) w)
     holds =
         rw (u .decodes)
         (ap (λ (n : ℕ). andThen {A = Unit {0}} (standing x n) (λ y. fitting (length out) w)) (u .states))
@@ -71,8 +76,8 @@ module _ (bs : List ℕ) (x : Sentence) (out : List ℕ) where
   module _ (out' : List ℕ) (r : WriteAnswer) (filled : Filled outcome out out' r) where
     -- a close that is refused hands back what it got, and has written nothing
     pub close-refused : (y : Refusal) → r ≡ Refused y
-        → Hands (close bs x (length out)) out out' (record { sentence = x; answer = Refused y })
-    close-refused y e = by (held bs x (length out)) e (filled .answered) (filled .wrote)
+        → Hands (close lim bs x (length out)) out out' (record { sentence = x; answer = Refused y })
+    close-refused y e = by (held lim bs x (length out)) e (filled .answered) (filled .wrote)
       where
         by : (o : Outcome (List ℕ)) → r ≡ Refused y → writeOutcome r ≡ longOf o → out' ≡ written o out
             → Hands (shut x o) out out' (record { sentence = x; answer = Refused y })
@@ -80,9 +85,9 @@ module _ (bs : List ℕ) (x : Sentence) (out : List ℕ) where
         by (result v) e a f = absurd (refusal-never y (length v) (sym (ap writeOutcome e) ∙ a))
 
     pub close-done : (n : ℕ) → r ≡ Written n
-        → Hands (close bs x (length out)) out out'
+        → Hands (close lim bs x (length out)) out out'
         (record { sentence = record { state = x .state; given = x .given; closed = true }; answer = r })
-    close-done n e = by (held bs x (length out)) (filled .answered) (filled .wrote)
+    close-done n e = by (held lim bs x (length out)) (filled .answered) (filled .wrote)
       where
         by : (o : Outcome (List ℕ)) → writeOutcome r ≡ longOf o → out' ≡ written o out
             → Hands (shut x o) out out'

@@ -8,16 +8,18 @@ use borrow.Author.Tests.{lt-ltb, le-ltb, ltb-true}
 use lib.Dec.{ltb}
 use lib.ListN.{length}
 use Rattle.limits.specs.Limits.{longest-sentence}
-use Rattle.answers.specs.Outcome.{Outcome, result, refused, nothing, andThen, provided}
+use Rattle.limits.specs.declared.Limits.{Limits}
+use Rattle.answers.specs.Outcome.{Outcome, Place, result, refused, nothing, andThen, provided}
 use Rattle.answers.specs.Answer.{refusal}
 use Rattle.answers.proofs.Outcome.{passed, went, refusal-then, refusal-never}
 use Rattle.answers.specs.declared.Refusal.{Refusal}
+use Rattle.answers.specs.declared.Refusal.the-variants.{AtByte, AtRule, Bare}
 use Rattle.sentences.specs.Admission.{admissionOutcome}
 use Rattle.sentences.specs.declared.Admission.{Admission}
 use Rattle.sentences.specs.declared.Admission.the-variants.{Admitted}
-use Rattle.tables.specs.Decode.{decode}
-use Rattle.tables.specs.Run.{sizeOf}
-use Rattle.tables.proofs.Outcomes.{Read, gave, refuses, read-decode}
+use Rattle.tables.specs.Decode.{Decoded, decodeWithin}
+use Rattle.tables.specs.Run.{Size, sizeOf}
+use Rattle.tables.proofs.Outcomes.{Begun, read, not-read, not-ranged, begun}
 use Rattle.decoder.specs.Answer.{tableOutcome}
 use Rattle.decoder.specs.declared.TableAnswer.{TableAnswer}
 use Rattle.typing.specs.Typing.{opened, standing, admits}
@@ -81,23 +83,41 @@ admission-refused o r y e f = sym f ∙ ap admissionOutcome e
 pub admission-admitted : (o : Outcome (Unit {0})) (r : Admission) → r ≡ Admitted → admissionOutcome r ≡ o → o ≡ result tt
 admission-admitted o r e f = sym f ∙ ap admissionOutcome e
 
--- a sentence is opened exactly if the table is read
-module _ (bs : List ℕ) (r : TableAnswer) (answered : tableOutcome r ≡ sizeOf bs) where
-  pub open-refused : (y : Refusal) → r ≡ TableAnswer.Refused y → refused 12 nothing ≡ opened bs
-  open-refused y e = by (read-decode bs)
-    where
-      by : Read (decode bs) → refused 12 nothing ≡ opened bs
-      by (refuses f) = rw f refl
-      by (gave d f) =
-          let size : sizeOf bs ≡ result (record { tags = d .tags; states = length (d .table) }) = rw f refl in
-          absurd (refusal-never y (record { tags = d .tags; states = length (d .table) }) (sym (ap tableOutcome e) ∙ answered ∙ size))
+-- what is refused before one result is refused before another
+refused-alike : {A B : Type 0} (y : Refusal) (n : ℕ) (p : Place) → refusal {A = A} y ≡ refused n p → refusal {A = B} y ≡ refused n p
+refused-alike (AtByte m i) n p e = cc
+refused-alike (AtRule m i) n p e = cc
+refused-alike (Bare m) n p e = cc
 
-  pub open-done : (k s : ℕ) → r ≡ TableAnswer.Table k s → result (record { state = 0; given = 0; closed = false }) ≡ opened bs
-  open-done k s e = by (read-decode bs)
+-- a sentence is opened exactly if the table is read
+module _ (lim : Limits) (bs : List ℕ) (r : TableAnswer) (answered : tableOutcome r ≡ sizeOf lim bs) where
+  abbrev sizes : Decoded → Outcome Size
+  sizes d = result (record { tags = d .tags; states = length (d .table) })
+
+  abbrev begins : Decoded → Outcome Sentence
+  begins d = result (record { state = 0; given = 0; closed = false })
+
+  pub open-refused : (y : Refusal) → r ≡ TableAnswer.Refused y → refusal y ≡ opened lim bs
+  open-refused y e = by (begun lim bs)
     where
-      by : Read (decode bs) → result (record { state = 0; given = 0; closed = false }) ≡ opened bs
-      by (gave d f) = rw f refl
-      by (refuses f) =
-          let size : sizeOf bs ≡ refused 12 nothing = rw f refl in
+      at : refusal y ≡ sizeOf lim bs
+      at = sym (ap tableOutcome e) ∙ answered
+
+      by : Begun (decodeWithin lim bs) → refusal y ≡ opened lim bs
+      by (read d f) = absurd (refusal-never y (record { tags = d .tags; states = length (d .table) }) (at ∙ ap (λ (o : Outcome Decoded). andThen o sizes) f))
+      by (not-read f) = refused-alike y 12 nothing (at ∙ ap (λ (o : Outcome Decoded). andThen o sizes) f) ∙ sym (ap (λ (o : Outcome Decoded). andThen o begins) f)
+      by (not-ranged f) = refused-alike y 17 nothing (at ∙ ap (λ (o : Outcome Decoded). andThen o sizes) f) ∙ sym (ap (λ (o : Outcome Decoded). andThen o begins) f)
+
+  pub open-done : (k s : ℕ) → r ≡ TableAnswer.Table k s → result (record { state = 0; given = 0; closed = false }) ≡ opened lim bs
+  open-done k s e = by (begun lim bs)
+    where
+      by : Begun (decodeWithin lim bs) → result (record { state = 0; given = 0; closed = false }) ≡ opened lim bs
+      by (read d f) = rw f refl
+      by (not-read f) =
+          let size : sizeOf lim bs ≡ refused 12 nothing = rw f refl in
           let o : tableOutcome (TableAnswer.Table k s) ≡ refused 12 nothing = sym (ap tableOutcome e) ∙ answered ∙ size in
+          let y : _≡_ {A = ℕ} 0 1 = cc in absurd (omega arith)
+      by (not-ranged f) =
+          let size : sizeOf lim bs ≡ refused 17 nothing = rw f refl in
+          let o : tableOutcome (TableAnswer.Table k s) ≡ refused 17 nothing = sym (ap tableOutcome e) ∙ answered ∙ size in
           let y : _≡_ {A = ℕ} 0 1 = cc in absurd (omega arith)

@@ -3,6 +3,7 @@
 use answers::Refusal;
 use answers::WriteAnswer;
 use decoder::TableAnswer;
+use limits::Limits;
 use sentences::Admission;
 use steps::base_of;
 use steps::count_of;
@@ -75,14 +76,14 @@ fn refuse(sentence: Sentence, given: Refusal) -> Typed
 }
 
 impl Sentence {
-    // Opens a sentence over a table, or 12.
-    pub fn open(table: &[u8]) -> Opened
-        ensures { λ r. ⌜ openOutcome r ≡ opened (now (table .entry)) ⌝ }
+    // Opens a sentence over a table, or 17 or 12.
+    pub fn open(table: &[u8], lim: Limits) -> Opened
+        ensures { λ r. ⌜ openOutcome r ≡ opened lim (now (table .entry)) ⌝ }
     {
-        let got = read_table(table);
-        let TableAnswer::Table { .. } = got else {
-            return Opened::Refused(Refusal::Bare { number: 12 });
-        };
+        let got = read_table(table, lim);
+        if let TableAnswer::Refused(r) = got {
+            return Opened::Refused(r);
+        }
         Opened::Open(Sentence {
             state: 0,
             given: 0,
@@ -133,9 +134,18 @@ impl Sentence {
     }
 
     // Gives a tag, of which the table is read and the entry of its step is found.
-    fn take(self, table: &[u8], k: usize, s: usize, e: u64, tag: u8, out: &mut [u8]) -> Typed
-        requires { ⌜ CellRead (now table) (self .state) (1 + tag) k s e ⌝ }
-        ensures { λ r. ⌜ Hands (give (now (table .entry)) self tag (length (now (out .entry)))) (now (out .entry)) (now (out .exit)) r ⌝ }
+    fn take(
+        self,
+        table: &[u8],
+        k: usize,
+        s: usize,
+        e: u64,
+        tag: u8,
+        out: &mut [u8],
+        lim: Limits,
+    ) -> Typed
+        requires { ⌜ CellRead lim (now table) (self .state) (1 + tag) k s e ⌝ }
+        ensures { λ r. ⌜ Hands (give lim (now (table .entry)) self tag (length (now (out .entry)))) (now (out .entry)) (now (out .exit)) r ⌝ }
     {
         let admission = self.admit(k, s, tag);
         if let Admission::Refused(r) = admission {
@@ -153,26 +163,33 @@ impl Sentence {
         }
     }
 
-    // Gives a tag: the tags put out, or 12, 15, 16, 13, 4 or 11 in that order.
-    pub fn give(self, table: &[u8], tag: u8, out: &mut [u8]) -> Typed
-        ensures { λ r. ⌜ Hands (give (now (table .entry)) self tag (length (now (out .entry)))) (now (out .entry)) (now (out .exit)) r ⌝ }
+    // Gives a tag: the tags put out, or 17, 12, 15, 16, 13, 4 or 11 in that order.
+    pub fn give(self, table: &[u8], tag: u8, out: &mut [u8], lim: Limits) -> Typed
+        ensures { λ r. ⌜ Hands (give lim (now (table .entry)) self tag (length (now (out .entry)))) (now (out .entry)) (now (out .exit)) r ⌝ }
     {
-        let found = find_entry(table, self.state, 1 + wide(tag));
-        let Found::Entry {
-            tags,
-            states,
-            entry,
-        } = found
-        else {
-            return refuse(self, Refusal::Bare { number: 12 });
-        };
-        self.take(table, tags, states, entry, tag, out)
+        let found = find_entry(table, self.state, 1 + wide(tag), lim);
+        match found {
+            Found::Entry {
+                tags,
+                states,
+                entry,
+            } => self.take(table, tags, states, entry, tag, out, lim),
+            Found::Refused(r) => refuse(self, r),
+        }
     }
 
     // The final word of the state, of which the table is read and the entry found.
-    fn put_final(self, table: &[u8], k: usize, s: usize, e: u64, out: &mut [u8]) -> WriteAnswer
-        requires { ⌜ CellRead (now table) (self .state) 0 k s e ⌝ }
-        ensures { λ r. ⌜ Filled (held (now (table .entry)) self (length (now (out .entry)))) (now (out .entry)) (now (out .exit)) r ⌝ }
+    fn put_final(
+        self,
+        table: &[u8],
+        k: usize,
+        s: usize,
+        e: u64,
+        out: &mut [u8],
+        lim: Limits,
+    ) -> WriteAnswer
+        requires { ⌜ CellRead lim (now table) (self .state) 0 k s e ⌝ }
+        ensures { λ r. ⌜ Filled (held lim (now (table .entry)) self (length (now (out .entry)))) (now (out .entry)) (now (out .exit)) r ⌝ }
     {
         let stands = self.stand(s);
         if let Admission::Refused(r) = stands {
@@ -186,27 +203,26 @@ impl Sentence {
         WriteAnswer::Written(count)
     }
 
-    // The final word of the state to the front of `out`: its length, or 12, 15, 16 or 11 in that order.
-    fn put_held(self, table: &[u8], out: &mut [u8]) -> WriteAnswer
-        ensures { λ r. ⌜ Filled (held (now (table .entry)) self (length (now (out .entry)))) (now (out .entry)) (now (out .exit)) r ⌝ }
+    // The final word of the state to the front of `out`: its length, or 17, 12, 15, 16 or 11 in that order.
+    fn put_held(self, table: &[u8], out: &mut [u8], lim: Limits) -> WriteAnswer
+        ensures { λ r. ⌜ Filled (held lim (now (table .entry)) self (length (now (out .entry)))) (now (out .entry)) (now (out .exit)) r ⌝ }
     {
-        let found = find_entry(table, self.state, 0);
-        let Found::Entry {
-            tags,
-            states,
-            entry,
-        } = found
-        else {
-            return WriteAnswer::Refused(Refusal::Bare { number: 12 });
-        };
-        self.put_final(table, tags, states, entry, out)
+        let found = find_entry(table, self.state, 0, lim);
+        match found {
+            Found::Entry {
+                tags,
+                states,
+                entry,
+            } => self.put_final(table, tags, states, entry, out, lim),
+            Found::Refused(r) => WriteAnswer::Refused(r),
+        }
     }
 
     // What closing now would put out; the sentence stays open.
-    pub fn look(self, table: &[u8], out: &mut [u8]) -> Typed
-        ensures { λ r. ⌜ Hands (look (now (table .entry)) self (length (now (out .entry)))) (now (out .entry)) (now (out .exit)) r ⌝ }
+    pub fn look(self, table: &[u8], out: &mut [u8], lim: Limits) -> Typed
+        ensures { λ r. ⌜ Hands (look lim (now (table .entry)) self (length (now (out .entry)))) (now (out .entry)) (now (out .exit)) r ⌝ }
     {
-        let answer = self.put_held(table, out);
+        let answer = self.put_held(table, out, lim);
         Typed {
             sentence: self,
             answer,
@@ -214,10 +230,10 @@ impl Sentence {
     }
 
     // Closes the sentence: the held tags.
-    pub fn close(self, table: &[u8], out: &mut [u8]) -> Typed
-        ensures { λ r. ⌜ Hands (close (now (table .entry)) self (length (now (out .entry)))) (now (out .entry)) (now (out .exit)) r ⌝ }
+    pub fn close(self, table: &[u8], out: &mut [u8], lim: Limits) -> Typed
+        ensures { λ r. ⌜ Hands (close lim (now (table .entry)) self (length (now (out .entry)))) (now (out .entry)) (now (out .exit)) r ⌝ }
     {
-        let answer = self.put_held(table, out);
+        let answer = self.put_held(table, out, lim);
         if let WriteAnswer::Refused(r) = answer {
             return refuse(self, r);
         }

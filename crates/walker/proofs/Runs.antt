@@ -8,7 +8,9 @@ use borrow.Author.Tests.{eq-eqb, eqb-true, lt-ltb, le-ltb, le-leb, lt-leb}
 use lib.Dec.{eqb, leb, ltb}
 use lib.ListN.{length, take, drop, getD}
 use lib.Seq.{length-take-le}
-use Rattle.limits.specs.Limits.{fewest-tags, most-tags, longest-sentence}
+use Rattle.limits.specs.Limits.{fewest-tags, most-tags, longest-sentence, InRange, inRange}
+use Rattle.limits.specs.declared.Limits.{Limits}
+use Rattle.limits.proofs.Range.{within-is, without-is}
 use Rattle.words.specs.Word.{differences}
 use Rattle.answers.specs.Outcome.{Outcome, result, refused, nothing, andThen, provided}
 use Rattle.answers.specs.Answer.{refusal, runOutcome}
@@ -21,7 +23,7 @@ use Rattle.sentences.specs.Run.{highest, admitted, run, Ran, Accepted}
 use Rattle.sentences.specs.Admission.{admission}
 use Rattle.sentences.specs.declared.Admission.{Admission}
 use Rattle.sentences.specs.declared.Admission.the-variants.{Admitted}
-use Rattle.sentences.proofs.Run.{RunEnds, too-long, high-tag, no-room, made-of, run-ends, below-highest}
+use Rattle.sentences.proofs.Run.{ran-refused, RunEnds, too-long, high-tag, no-room, made-of, run-ends, below-highest}
 use Rattle.tables.proofs.Outcomes.{Read, gave, refuses}
 use Rattle.loaded.specs.Run.{way, sound, loadedRun}
 use Rattle.loaded.proofs.Refusal.{way-read}
@@ -69,38 +71,43 @@ module _ (ns : List ℕ) (k : ℕ) (s out : List ℕ) where
 
 -- ---- before it
 
-module _ (ns s out : List ℕ) where
+-- limits out of range
+pub not-ranged : (lim : Limits) (ns s out : List ℕ) → inRange lim ≡ false → Ran (loadedRun lim ns s (length out)) s out out (Refused (Bare 17))
+not-ranged lim ns s out e = ran-refused (loadedRun lim ns s (length out)) s out (Bare 17) (sym (without-is lim _ e))
+
+module _ (lim : Limits) (ranged : InRange lim) (ns s out : List ℕ) where
   abbrev head : ℕ
   head = getD ns 0 0
 
-  pub head-none : length ns ≡ 0 → loadedRun ns s (length out) ≡ refused 12 nothing
+  pub head-none : length ns ≡ 0 → loadedRun lim ns s (length out) ≡ refused 12 nothing
   head-none e = none ns e
     where
-      none : (l : List ℕ) → length l ≡ 0 → loadedRun l s (length out) ≡ refused 12 nothing
-      none [] e = refl
+      none : (l : List ℕ) → length l ≡ 0 → loadedRun lim l s (length out) ≡ refused 12 nothing
+      none [] e = within-is lim _ ranged
       none (x ∷ l) e = absurd (omega arith)
 
-  pub head-low : head < fewest-tags → loadedRun ns s (length out) ≡ refused 12 nothing
-  head-low h = rw (lt-leb fewest-tags head h) refl
+  pub head-low : head < fewest-tags → loadedRun lim ns s (length out) ≡ refused 12 nothing
+  head-low h = within-is lim _ ranged ∙ rw (lt-leb fewest-tags head h) refl
 
-  pub head-high : most-tags < head → loadedRun ns s (length out) ≡ refused 12 nothing
-  head-high h = both (leb fewest-tags head)
+  pub head-high : lim .tags < head → loadedRun lim ns s (length out) ≡ refused 12 nothing
+  head-high h = within-is lim _ ranged ∙ both (leb fewest-tags head)
     where
       both : (t : Bool)
-          → provided 12 (t && leb head most-tags) (andThen (admitted head s) (λ x. provided 11 (leb (length s) (length out)) (wayRun ns head s))) ≡ refused 12 nothing
-      both true = rw (lt-leb head most-tags h) refl
+          → provided 12 (t && leb head (lim .tags)) (andThen (admitted head s) (λ x. provided 11 (leb (length s) (length out)) (wayRun ns head s))) ≡ refused 12 nothing
+      both true = rw (lt-leb head (lim .tags) h) refl
       both false = refl
 
-  module _ (k : ℕ) (is : k ≡ head) (some : fewest-tags ≤ k) (most : k ≤ most-tags) where
+  module _ (k : ℕ) (is : k ≡ head) (some : fewest-tags ≤ k) (most : k ≤ lim .tags) where
     -- the sentence's tests, then whatever o is
     tests : Outcome (List ℕ) → Outcome (List ℕ)
     tests o = andThen (admitted k s) (λ x. provided 11 (leb (length s) (length out)) o)
 
-    loaded-tests : loadedRun ns s (length out) ≡ tests (wayRun ns k s)
+    loaded-tests : loadedRun lim ns s (length out) ≡ tests (wayRun ns k s)
     unfolding tests
     loaded-tests =
-        ap (λ (j : ℕ). provided 12 (leb fewest-tags j && leb j most-tags) (andThen (admitted j s) (λ x. provided 11 (leb (length s) (length out)) (wayRun ns j s)))) (sym is)
-        ∙ rw (le-leb fewest-tags k some, le-leb k most-tags most) refl
+        within-is lim _ ranged
+        ∙ ap (λ (j : ℕ). provided 12 (leb fewest-tags j && leb j (lim .tags)) (andThen (admitted j s) (λ x. provided 11 (leb (length s) (length out)) (wayRun ns j s)))) (sym is)
+        ∙ rw (le-leb fewest-tags k some, le-leb k (lim .tags) most) refl
 
     abbrev tested : Bool → Bool → Bool → Outcome (List ℕ) → Outcome (List ℕ)
     tested a b c o = andThen {A = Unit {0}} (provided 13 a (provided 4 b (result tt))) (λ x. provided 11 c o)
@@ -113,15 +120,15 @@ module _ (ns s out : List ℕ) where
 
     -- the sentence is refused
     pub loaded-refused : (r : Admission) → ((made : List ℕ) → admission r made ≡ run k s (length out) made) → (x : Refusal) → r ≡ Admission.Refused x
-        → (a : RunAnswer) → a ≡ Refused x → Ran (loadedRun ns s (length out)) s out out a
+        → (a : RunAnswer) → a ≡ Refused x → Ran (loadedRun lim ns s (length out)) s out out a
     unfolding tests
     loaded-refused r told x e a f =
         let g : refusal x ≡ run k s (length out) [] = ap (λ (y : Admission). admission y []) (sym e) ∙ told [] in
-        let h : loadedRun ns s (length out) ≡ refusal x =
+        let h : loadedRun lim ns s (length out) ≡ refusal x =
         loaded-tests ∙ refused-tests (leb (length s) longest-sentence) (ltb (highest s) k) (leb (length s) (length out)) x g in
         by x h f
       where
-        by : (x : Refusal) → loadedRun ns s (length out) ≡ refusal x → a ≡ Refused x → Ran (loadedRun ns s (length out)) s out out a
+        by : (x : Refusal) → loadedRun lim ns s (length out) ≡ refusal x → a ≡ Refused x → Ran (loadedRun lim ns s (length out)) s out out a
         by (AtByte n p) h f = record { answered = cc (h, f); wrote = cc (h) }
         by (AtRule n p) h f = record { answered = cc (h, f); wrote = cc (h) }
         by (Bare n) h f = record { answered = cc (h, f); wrote = cc (h) }
@@ -136,10 +143,10 @@ module _ (ns s out : List ℕ) where
         by no-room d = let z : _≡_ {A = ℕ} 0 1 = cc in absurd (omega arith)
         by (made-of a) d = a
 
-    pub loaded-way : Accepted k s (length out) → (out' : List ℕ) (a : RunAnswer) → Ran (wayRun ns k s) s out out' a → Ran (loadedRun ns s (length out)) s out out' a
+    pub loaded-way : Accepted k s (length out) → (out' : List ℕ) (a : RunAnswer) → Ran (wayRun ns k s) s out out' a → Ran (loadedRun lim ns s (length out)) s out out' a
     unfolding tests
     loaded-way ok out' a ran =
-        let e : loadedRun ns s (length out) ≡ wayRun ns k s =
+        let e : loadedRun lim ns s (length out) ≡ wayRun ns k s =
         loaded-tests
         ∙ rw (
           le-leb (length s) longest-sentence (ok .short),

@@ -2,13 +2,14 @@
 // slice. Time O(n) for n tags, whatever the table; space n bytes of the stack.
 use answers::Refusal;
 use answers::RunAnswer;
+use limits::Limits;
 use sentences::Admission;
 use ways::number_at;
 use ways::walk;
 use words::wide;
 ghost use Prim.Native.Nat.{_≤_};
 ghost use lib.ListN.{length};
-ghost use Rattle.limits.specs.Limits.{most-tags};
+ghost use Rattle.limits.specs.Limits.{most-tags, InRange};
 ghost use Rattle.sentences.specs.Run.{Ran, Accepted};
 ghost use Rattle.loaded.specs.Run.{loadedRun};
 ghost use Rattle.ways.specs.Walk.{Walkable};
@@ -88,9 +89,10 @@ fn run_beyond(ns: &[u32], k: u8, sentence: &[u8], out: &mut [u8]) -> RunAnswer
     run_longest(ns, k, sentence, out)
 }
 
-// Runs a loaded table over a sentence: the number of changed tags, or 12 for the head, 13, 4, 11, or 12 for what its way meets.
-pub fn run_loaded(loaded: &[u32], sentence: &[u8], out: &mut [u8]) -> RunAnswer
-    ensures { λ r. ⌜ Ran (loadedRun (now (loaded .entry)) (now (sentence .entry)) (length (now (out .entry)))) (now (sentence .entry)) (now (out .entry)) (now (out .exit)) r ⌝ }
+// The run with limits in their ranges.
+fn run_ranged(loaded: &[u32], sentence: &[u8], out: &mut [u8], lim: Limits) -> RunAnswer
+    requires { ⌜ InRange lim ⌝ }
+    ensures { λ r. ⌜ Ran (loadedRun lim (now (loaded .entry)) (now (sentence .entry)) (length (now (out .entry)))) (now (sentence .entry)) (now (out .entry)) (now (out .exit)) r ⌝ }
 {
     if loaded.len() == 0 {
         return RunAnswer::Refused(Refusal::Bare { number: 12 });
@@ -99,7 +101,7 @@ pub fn run_loaded(loaded: &[u32], sentence: &[u8], out: &mut [u8]) -> RunAnswer
     if head < limits::FEWEST_TAGS {
         return RunAnswer::Refused(Refusal::Bare { number: 12 });
     }
-    if limits::TAGS < head {
+    if lim.tags < head {
         return RunAnswer::Refused(Refusal::Bare { number: 12 });
     }
     let k = head as u8;
@@ -111,4 +113,14 @@ pub fn run_loaded(loaded: &[u32], sentence: &[u8], out: &mut [u8]) -> RunAnswer
         return run_short(loaded, k, sentence, out);
     }
     run_beyond(loaded, k, sentence, out)
+}
+
+// Runs a loaded table over a sentence: the number of changed tags, or 17, 12 for the head, 13, 4, 11, or 12 for what its way meets.
+pub fn run_loaded(loaded: &[u32], sentence: &[u8], out: &mut [u8], lim: Limits) -> RunAnswer
+    ensures { λ r. ⌜ Ran (loadedRun lim (now (loaded .entry)) (now (sentence .entry)) (length (now (out .entry)))) (now (sentence .entry)) (now (out .entry)) (now (out .exit)) r ⌝ }
+{
+    if !limits::in_range(lim) {
+        return RunAnswer::Refused(Refusal::Bare { number: 17 });
+    }
+    run_ranged(loaded, sentence, out, lim)
 }

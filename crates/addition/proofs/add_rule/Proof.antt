@@ -29,8 +29,8 @@ write-rule-requires c κs =
     let a = st .args in (
       st .pre .0,
       (
-        room (a .g) (a .work .now) (a .n) (a .ceiling) (a .end) (the-rule st) (st .pre .1),
-        (rule-fits (a .g) (a .work .now) (a .n) (a .ceiling) (a .end) (the-rule st) (st .pre .1), st .pre .1 .free),
+        room (a .g) (a .work .now) (a .n) (a .ceiling) (a .s) (a .end) (the-rule st) (st .pre .1),
+        (rule-fits (a .g) (a .work .now) (a .n) (a .ceiling) (a .s) (a .end) (the-rule st) (st .pre .1), st .pre .1 .free),
       ),
     )
 
@@ -38,7 +38,7 @@ compose-requires : tie.Need-compose-requires
 compose-requires c κs =
     let st = c .before .before .before .before .before .before in
     let w = c .before .before .before .write-rule in
-    composable (st .args .g) (st .args .work .now) (st .args .n) (st .args .ceiling) (st .args .end) (the-rule st) (st .pre .1) _ (w .result) (w .ensures)
+    composable (st .args .g) (st .args .work .now) (st .args .n) (st .args .ceiling) (st .args .s) (st .args .end) (the-rule st) (st .pre .1) _ (w .result) (w .ensures)
 
 merge-requires : tie.Need-merge-requires
 merge-requires c κs =
@@ -46,14 +46,14 @@ merge-requires c κs =
     let w = c .before .before .before .before .before .before .before .before .before .before .before .write-rule in
     let d = c .before .before .before .before .before .before .before .compose in
     let e = c .before .before .before .normalize in
-    (ready-normalized (st .args .g) (st .args .work .now) (st .args .n) (st .args .ceiling) (st .args .end) (the-rule st) (st .pre .1) _ (w .result) (w .ensures) _ _ (d .ensures) _ (e .ensures), early-normalized (st .args .g) (st .args .work .now) (st .args .n) (st .args .ceiling) (st .args .end) (the-rule st) (st .pre .1) _ (w .result) (w .ensures) _ _ (d .ensures) _ (e .ensures))
+    (ready-normalized (st .args .g) (st .args .work .now) (st .args .n) (st .args .ceiling) (st .args .s) (st .args .end) (the-rule st) (st .pre .1) _ (w .result) (w .ensures) _ _ (d .ensures) _ (e .ensures), early-normalized (st .args .g) (st .args .work .now) (st .args .n) (st .args .ceiling) (st .args .s) (st .args .end) (the-rule st) (st .pre .1) _ (w .result) (w .ensures) _ _ (d .ensures) _ (e .ensures))
 
 normalize-requires : tie.Need-normalize-requires
 normalize-requires c κs =
     let st = c .before .before .before .before .before .before .before .before .before .before in
     let w = c .before .before .before .before .before .before .before .write-rule in
     let d = c .before .before .before .compose in
-    ready-composed (st .args .g) (st .args .work .now) (st .args .n) (st .args .ceiling) (st .args .end) (the-rule st) (st .pre .1) _ (w .result) (w .ensures) _ _ (d .ensures)
+    ready-composed (st .args .g) (st .args .work .now) (st .args .n) (st .args .ceiling) (st .args .s) (st .args .end) (the-rule st) (st .pre .1) _ (w .result) (w .ensures) _ _ (d .ensures)
 
 number-requires : tie.Need-number-requires
 number-requires c κs =
@@ -62,7 +62,7 @@ number-requires c κs =
     let d = c .before .before .before .before .before .before .before .before .before .before .before .compose in
     let e = c .before .before .before .before .before .before .before .normalize in
     let m = c .before .before .before .merge in
-    (is-classed (st .args .g) (st .args .work .now) (st .args .n) (st .args .ceiling) (st .args .end) (the-rule st) (st .pre .1) _ (w .result) (w .ensures) _ _ (d .ensures) _ (e .ensures) _ (m .ensures), omega arith)
+    (is-classed (st .args .g) (st .args .work .now) (st .args .n) (st .args .ceiling) (st .args .s) (st .args .end) (the-rule st) (st .pre .1) _ (w .result) (w .ensures) _ _ (d .ensures) _ (e .ensures) _ (m .ensures), omega arith)
 
 same-length : tie.Need-same-length
 same-length c = search needs
@@ -75,7 +75,7 @@ returns c =
     let e = c .before .before .before .before .before .before .before .before .before .before .normalize in
     let m = c .before .before .before .before .before .before .merge in
     let u = c .before .before .number in
-    added (st .args .g) (st .args .work .now) (st .args .n) (st .args .ceiling) (st .args .end) (the-rule st) (st .pre .1) _ (w .result) (w .ensures) _ _ (d .ensures) _ (e .ensures) _ (m .ensures) _ _ (u .ensures)
+    added (st .args .g) (st .args .work .now) (st .args .n) (st .args .ceiling) (st .args .s) (st .args .end) (the-rule st) (st .pre .1) _ (w .result) (w .ensures) _ _ (d .ensures) _ (e .ensures) _ (m .ensures) _ _ (u .ensures)
 
 pub add-rule-spec : {M : Type 1} → statement M
 add-rule-spec =

@@ -6,7 +6,8 @@ use mathlib.Core.Path.{_≡_, refl, sym, subst}
 use mathlib.Core.Bool.{false}
 use mathlib.Core.List.{List}
 use lib.ListN.{length}
-use Rattle.limits.specs.Limits.{longest-pattern}
+use Rattle.limits.specs.Work.{rule-holds}
+use Rattle.limits.proofs.Work.{not-deep}
 use Rattle.cascades.specs.Rule.{Rule, ValidRule}
 use Rattle.cascades.specs.Value.{ruleOf}
 use Rattle.cascades.specs.Ending.{misused}
@@ -24,51 +25,54 @@ use Rattle.builder.proofs.finish.Reads as finish-reads
 use Rattle.identity.proofs.write_identity.Reads as write-identity-reads
 
 abbrev Inv-loop : tie.InvT-loop
-Inv-loop work₀ g ceiling end m rows lengths heads out n₀ i₀ work n i = Progress g work₀ work ceiling end m (holding rows lengths heads) i n
+Inv-loop work₀ g ceiling end m rows lengths heads out states n₀ i₀ work n i = Progress g work₀ work ceiling end m (holding rows lengths heads) i n
 
 abbrev μ-loop : tie.MeasureT-loop
-μ-loop work₀ g ceiling end m rows lengths heads out n₀ i₀ work n i = m - i
+μ-loop work₀ g ceiling end m rows lengths heads out states n₀ i₀ work n i = m - i
 
 abbrev the-arrays : tie.Start Inv-loop μ-loop → Arrays
 the-arrays st = holding (st .args .rows .now) (st .args .lengths .now) (st .args .heads .now)
 
 -- after the identity's row
-now-ok : (st : tie.Start Inv-loop μ-loop) (X : List ℕ) → length X ≡ length (st .args .work .now) → Compilable (st .args .g) X (st .args .ceiling) (st .args .end) (st .args .m) (the-arrays st)
+now-ok : (st : tie.Start Inv-loop μ-loop) (X : List ℕ) → length X ≡ length (st .args .work .now) → Compilable (st .args .lim) (st .args .g) X (st .args .ceiling) (st .args .end) (st .args .m) (the-arrays st)
 now-ok st X long = begun (st .args .g) (st .args .work .now) X (st .args .ceiling) (st .args .end) (st .args .m) (the-arrays st) (st .pre) long
+
+add-states : tie.Need-add-states Inv-loop μ-loop
+add-states c = omega (arith, c .before .before .before .pre .readable .ranged .short-pattern)
 
 write-identity-requires : tie.Need-write-identity-requires Inv-loop μ-loop
 write-identity-requires c κs = search needs
 
 loop-holds : tie.Need-loop-holds Inv-loop μ-loop
 loop-holds c =
-    let st = c .before .before .before .before .before .before in
+    let st = c .before .before .before .before .before .before .before in
     let w = c .before .before .write-identity in
     progress-start (st .args .g) (w .last .0) (st .args .ceiling) (st .args .end) (st .args .m) (the-arrays st) (now-ok st (w .last .0) (w .ensures .1 .long)) (w .ensures .0)
 
 rule-at-requires : tie.Need-rule-at-requires Inv-loop μ-loop
-rule-at-requires c κs = let st = c .before .before .before .before .before .before .before .before in (st .pre .readable .held .shaped, omega (arith, st .pre .readable .held .few))
+rule-at-requires c κs = let st = c .before .before .before .before .before .before .before .before .before in (st .pre .readable .held .shaped, omega (arith, st .pre .readable .held .few))
 
 add-rule-requires : tie.Need-add-rule-requires Inv-loop μ-loop
 add-rule-requires c κs =
-    let st = c .before .before .before .before .before .before .before .before .before .before in
+    let st = c .before .before .before .before .before .before .before .before .before .before .before in
     let w = c .before .before .before .before .before .before .write-identity in
     let l = c .before .before .before .loop in
     let r = c .before .rule-at in (
       r .ensures .1,
       addable (st .args .g) (w .last .0) (st .args .ceiling) (st .args .end) (st .args .m) (the-arrays st) (now-ok st (w .last .0) (w .ensures .1 .long)) (l .work) (l .i) (l .n) (l .inv) (omega arith)
-          (ruleOf (r .result)) (subst (ValidRule longest-pattern (st .args .g .tags)) (sym (r .ensures .0)) (st .pre .readable .held .valid _ (omega arith)))
+          (ruleOf (r .result)) (subst (ValidRule (st .args .lim .pattern) (st .args .g .tags)) (sym (r .ensures .0)) (st .pre .readable .held .valid _ (omega arith)))
           (subst (λ (x : Rule). misused (st .args .end) x ≡ false) (sym (r .ensures .0)) (used (st .args .g) (st .args .work .now) (st .args .ceiling) (st .args .end) (st .args .m) (the-arrays st) (st .pre) _ (omega arith))),
     )
 
-add-t20 : tie.Need-add-t20 Inv-loop μ-loop
-add-t20 c = search needs
+add-t22 : tie.Need-add-t22 Inv-loop μ-loop
+add-t22 c = search needs
 
 same-length : tie.Need-same-length Inv-loop μ-loop
 same-length c = search needs
 
 returns : tie.Need-returns Inv-loop μ-loop
 returns c =
-    let st = c .before .before .before .before .before .before .before .before .before .before .before .before .before .before in
+    let st = c .before .before .before .before .before .before .before .before .before .before .before .before .before .before .before in
     let w = c .before .before .before .before .before .before .before .before .before .before .write-identity in
     let l = c .before .before .before .before .before .before .before .loop in
     let less = c .before .before .before .before .before .before .loop-test .taken in
@@ -89,7 +93,7 @@ loop-less c = search needs
 
 loop-again : tie.Need-loop-again Inv-loop μ-loop
 loop-again c =
-    let st = c .before .before .before .before .before .before .before .before .before .before .before .before .before .before in
+    let st = c .before .before .before .before .before .before .before .before .before .before .before .before .before .before .before in
     let w = c .before .before .before .before .before .before .before .before .before .before .write-identity in
     let l = c .before .before .before .before .before .before .before .loop in
     let less = c .before .before .before .before .before .before .loop-test .taken in
@@ -100,11 +104,14 @@ loop-again c =
 
 finish-requires : tie.Need-finish-requires Inv-loop μ-loop
 finish-requires c κs =
-    let st = c .before .before .before .before .before .before .before .before .before .before in
+    let st = c .before .before .before .before .before .before .before .before .before .before .before in
     let w = c .before .before .before .before .before .before .write-identity in
     let l = c .before .before .before .loop in (
       ready (st .args .g) (w .last .0) (st .args .ceiling) (st .args .end) (st .args .m) (the-arrays st) (now-ok st (w .last .0) (w .ensures .1 .long)) (l .work) (l .i) (l .n) (l .inv),
-      (omega (arith, st .pre .readable .tags), omega (arith, st .pre .depth, st .pre .readable .held .few)),
+      (
+        omega (arith, st .pre .readable .tags, st .pre .readable .ranged .few-tags),
+        omega (arith, st .pre .depth, not-deep (rule-holds (st .args .lim)) (st .args .m) (omega (arith, st .pre .readable .ranged .short-pattern)) (st .pre .readable .held .few)),
+      ),
     )
 
 same-length-2 : tie.Need-same-length-2 Inv-loop μ-loop
@@ -115,7 +122,7 @@ same-length-3 c = search needs
 
 returns-2 : tie.Need-returns-2 Inv-loop μ-loop
 returns-2 c =
-    let st = c .before .before .before .before .before .before .before .before .before .before .before .before .before in
+    let st = c .before .before .before .before .before .before .before .before .before .before .before .before .before .before in
     let w = c .before .before .before .before .before .before .before .before .before .write-identity in
     let l = c .before .before .before .before .before .before .loop in
     let f = c .before .before .finish in (
@@ -129,11 +136,12 @@ build-spec =
     (tie.spec
     Inv-loop
     μ-loop
+    add-states
     write-identity-requires
     loop-holds
     rule-at-requires
     add-rule-requires
-    add-t20
+    add-t22
     same-length
     returns
     add-i

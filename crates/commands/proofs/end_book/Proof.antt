@@ -3,10 +3,8 @@ use native.Mathlib.Omega.{arith}
 use borrow.Author.Needs.{needs}
 use Prim.Native.Nat.{_-_}
 use mathlib.Core.Path.{_∙_, sym, ap}
-use Rattle.answers.specs.Outcome.{Outcome}
-use Rattle.cascades.specs.Rule.{Cascade}
 use Rattle.books.specs.Arrays.{Arrays, holding}
-use Rattle.books.specs.Resume.{readCommands, cascadeOutcome, faulted}
+use Rattle.books.specs.Resume.{cascadeOutcome, faulted}
 use Rattle.books.specs.declared.BookAnswer.{BookAnswer}
 use Rattle.books.proofs.Commands.{end-fault, end-more, end-whole}
 use Rattle.commands.proofs.end_book.Statement.{statement}
@@ -19,9 +17,6 @@ use Rattle.commands.proofs.refused.Reads as refused-reads
 abbrev arrays : tie.Start → Arrays
 arrays st = holding (st .args .rows .now) (st .args .lengths .now) (st .args .heads .now)
 
-abbrev entry : tie.Start → Outcome Cascade
-entry st = readCommands (st .args .s .now) (st .args .k) (st .args .m) (arrays st) (st .args .at)
-
 closing-fault-requires : tie.Need-closing-fault-requires
 closing-fault-requires c κs = search needs
 
@@ -29,10 +24,10 @@ refused-requires : tie.Need-refused-requires
 refused-requires c κs = search needs
 
 returns : tie.Need-returns
-returns c =
+returns c lim =
     let st = c .before .before .before .before in
     ap (λ (r : BookAnswer). cascadeOutcome r (arrays st)) (c .refused .ensures)
-    ∙ sym (end-fault (st .args .s .now) (st .args .k) (st .args .m) (arrays st) (st .args .at) (st .pre .1 .1) (st .pre .1 .2) (c .before .before .closing-fault .result) (c .before .before .closing-fault .ensures) (search needs))
+    ∙ sym (end-fault lim (st .args .s .now) (st .args .k) (st .args .m) (arrays st) (st .args .at) (st .pre .1 .1) (st .pre .1 .2) (c .before .before .closing-fault .result) (c .before .before .closing-fault .ensures) (search needs))
 
 add-next : tie.Need-add-next
 add-next c = search needs
@@ -41,15 +36,15 @@ refused-requires-2 : tie.Need-refused-requires-2
 refused-requires-2 c κs = search needs
 
 returns-2 : tie.Need-returns-2
-returns-2 c =
+returns-2 c lim =
     let st = c .before .before .before .before .before in
     ap (λ (r : BookAnswer). cascadeOutcome r (arrays st)) (c .refused2 .ensures)
-    ∙ sym (end-more (st .args .s .now) (st .args .k) (st .args .m) (arrays st) (st .args .at) (st .pre .1 .1) (st .pre .1 .2) (c .before .before .before .closing-fault .ensures ∙ ap faulted (c .before .before .if1 .left)) (omega arith))
+    ∙ sym (end-more lim (st .args .s .now) (st .args .k) (st .args .m) (arrays st) (st .args .at) (st .pre .1 .1) (st .pre .1 .2) (c .before .before .before .closing-fault .ensures ∙ ap faulted (c .before .before .if1 .left)) (omega arith))
 
 returns-3 : tie.Need-returns-3
-returns-3 c =
+returns-3 c lim =
     let st = c .before .before .before .before in
-    sym (end-whole (st .args .s .now) (st .args .k) (st .args .m) (arrays st) (st .args .at) (st .pre .1 .1) (st .pre .1 .2) (c .before .before .closing-fault .ensures ∙ ap faulted (c .before .if1 .left)) (omega arith))
+    sym (end-whole lim (st .args .s .now) (st .args .k) (st .args .m) (arrays st) (st .args .at) (st .pre .1 .1) (st .pre .1 .2) (c .before .before .closing-fault .ensures ∙ ap faulted (c .before .if1 .left)) (omega arith))
 
 pub end-book-spec : {M : Type 1} → statement M
 end-book-spec =

@@ -1,60 +1,25 @@
 -- `compiler::compile_ending` meets its contract.
-use native.Mathlib.Omega.{arith}
 use borrow.Author.Needs.{needs}
-use mathlib.Core.Path.{refl}
+use mathlib.Core.Path.{refl, sym, _∙_}
 use lib.ListN.{length}
+use Rattle.limits.proofs.Range.{in-range}
 use Rattle.answers.specs.Outcome.{nothing}
 use Rattle.answers.specs.declared.Refusal.the-variants.{Bare}
-use Rattle.compilation.specs.Compile.{tested}
-use Rattle.books.specs.Arrays.{holding}
-use Rattle.books.proofs.Arrays.{fresh-shaped}
 use Rattle.answers.specs.declared.CompileAnswer.{CompileAnswer}
-use Rattle.compiler.proofs.Reading.{refused-ended, too-low, too-high, book-refused, read-readable, book-ended, all-three}
+use Rattle.compilation.specs.Compile.{tested}
+use Rattle.compiler.proofs.Reading.{refused-ended, out-of-range, all-three}
 use Rattle.compiler.proofs.compile_ending.Statement.{statement}
 use Rattle.compiler.proofs.compile_ending.Tie as tie
 use Rattle.compiler.proofs.compile_ending.Reads as reads
 use Rattle.compiler.proofs.compile_ending.Lts as lts
-use Rattle.reader.proofs.read_into.Reads as read-into-reads
-use Rattle.compiler.proofs.compile_rules.Reads as compile-rules-reads
+use Rattle.compiler.proofs.compile_within.Reads as compile-within-reads
+use Rattle.limits.proofs.in_range.Reads as in-range-reads
 
-returns : tie.Need-returns
-returns c =
-    let a = c .before .before .before .before .args in
-    let n = length (a .work .now) in
-    all-three (a .book .now) (a .end) (a .ceiling) n
-    (refused-ended (tested (a .book .now) (a .end) (a .ceiling) n) (a .ceiling) 8 nothing (too-low (a .book .now) (a .end) (a .ceiling) n (omega arith)) (CompileAnswer.Refused (Bare 8)) refl (a .work .now) (a .out .now))
+in-range-requires : tie.Need-in-range-requires
+in-range-requires c κs = search needs
 
-returns-2 : tie.Need-returns-2
-returns-2 c =
-    let a = c .before .before .before .before .before .args in
-    let n = length (a .work .now) in
-    all-three (a .book .now) (a .end) (a .ceiling) n
-    (refused-ended (tested (a .book .now) (a .end) (a .ceiling) n) (a .ceiling) 8 nothing (too-high (a .book .now) (a .end) (a .ceiling) n (omega arith) (omega arith)) (CompileAnswer.Refused (Bare 8)) refl (a .work .now) (a .out .now))
-
-read-into-requires : tie.Need-read-into-requires
-read-into-requires c κs = fresh-shaped
-
-enum-known-got : tie.Need-enum-known-got
-enum-known-got c = search needs
-
-enum-known-got-2 : tie.Need-enum-known-got-2
-enum-known-got-2 c = search needs
-
-compile-rules-requires : tie.Need-compile-rules-requires
-compile-rules-requires c κs =
-    let a = c .before .before .before .before .before .before .before .before .before .before .before .before .before .before .before .before .before .args in
-    let r = c .before .before .before .before .before .before .before .before .read-into in
-    let held = holding (r .last .1 .0) (r .last .1 .1 .0) (r .last .1 .1 .1 .0) in
-    let book = c .before .before .before .before .before .before .got2 .given in
-    read-readable (a .book .now) (a .end) (a .ceiling) (length (a .work .now)) (omega arith) (omega arith) held (r .result) (r .ensures) (book .0 .0) (book .0 .1 .0) (book .1)
-
-returns-3 : tie.Need-returns-3
-returns-3 c =
-    let a = c .before .before .before .before .before .before .before .before .before .before .before .before .args in
-    let r = c .before .before .before .read-into in
-    let held = holding (r .last .1 .0) (r .last .1 .1 .0) (r .last .1 .1 .1 .0) in
-    all-three (a .book .now) (a .end) (a .ceiling) (length (a .work .now))
-    (book-refused (a .book .now) (a .end) (a .ceiling) (length (a .work .now)) (omega arith) (omega arith) held (r .result) (r .ensures) _ (c .before .got .given .1) (CompileAnswer.Refused (c .before .got .given .0 .0)) refl (a .work .now) (a .out .now))
+compile-within-requires : tie.Need-compile-within-requires
+compile-within-requires c κs = in-range _ (sym (c .before .before .before .in-range .ensures) ∙ c .before .before .if1 .taken)
 
 same-length : tie.Need-same-length
 same-length c = search needs
@@ -62,26 +27,25 @@ same-length c = search needs
 same-length-2 : tie.Need-same-length-2
 same-length-2 c = search needs
 
-returns-4 : tie.Need-returns-4
-returns-4 c =
-    let a = c .before .before .before .before .before .before .before .before .before .before .before .before .before .before .before .before .before .before .before .before .before .before .args in
-    let r = c .before .before .before .before .before .before .before .before .before .before .before .before .before .read-into in
-    let held = holding (r .last .1 .0) (r .last .1 .1 .0) (r .last .1 .1 .1 .0) in
-    let book = c .before .before .before .before .before .before .before .before .before .before .before .got2 .given in
-    all-three (a .book .now) (a .end) (a .ceiling) (length (a .work .now))
-    (book-ended (a .book .now) (a .end) (a .ceiling) (length (a .work .now)) (omega (arith, c .before .before .before .before .before .before .before .before .before .before .before .before .before .before .before .before .before .before .if1 .left)) (omega (arith, c .before .before .before .before .before .before .before .before .before .before .before .before .before .before .before .before .before .if2 .left)) held (r .result) (r .ensures) (book .0 .0) (book .0 .1 .0) (book .1) _ _ _ _ _ refl (c .before .before .before .before .compile-rules .ensures))
+returns : tie.Need-returns
+returns c = search needs
+
+returns-2 : tie.Need-returns-2
+returns-2 c =
+    let st = c .before .before .before .before .before in
+    let a = st .args in
+    let n = length (a .work .now) in
+    all-three (a .lim) (a .book .now) (a .end) (a .ceiling) n
+    (refused-ended (a .lim) (tested (a .lim) (a .book .now) (a .end) (a .ceiling) n) (a .ceiling) 17 nothing
+    (out-of-range (a .lim) (a .book .now) (a .end) (a .ceiling) n (sym (c .before .in-range .ensures) ∙ c .if1 .left)) (CompileAnswer.Refused (Bare 17)) refl (a .work .now) (a .out .now))
 
 pub compile-ending-spec : {M : Type 1} → statement M
 compile-ending-spec =
     tie.close
     (tie.spec
-    returns
-    returns-2
-    read-into-requires
-    enum-known-got
-    enum-known-got-2
-    compile-rules-requires
-    returns-3
+    in-range-requires
+    compile-within-requires
     same-length
     same-length-2
-    returns-4)
+    returns
+    returns-2)

@@ -1,68 +1,53 @@
 -- `compiler::compile_read` meets its contract.
-use Prim.Native.Nat.{_+_}
+use Prim.Native.Nat.{ℕ}
 use native.Mathlib.Omega.{arith}
 use borrow.Author.Needs.{needs}
-use mathlib.Core.Path.{refl}
-use Rattle.limits.specs.Limits.{work-rows, work-depth}
+use mathlib.Core.Path.{refl, ap, _∙_}
+use mathlib.Core.List.{_++_}
+use lib.ListN.{drop, replicate}
 use Rattle.books.specs.Arrays.{Arrays, holding}
-use Rattle.compiler.proofs.Reading.{product-small, compilable, in-code, short, ended}
+use Rattle.compiler.proofs.Reading.{grid-small, compilable, with-end, short, ended}
 use Rattle.compiler.proofs.compile_read.Statement.{statement}
 use Rattle.compiler.proofs.compile_read.Tie as tie
 use Rattle.compiler.proofs.compile_read.Reads as reads
 use Rattle.compiler.proofs.compile_read.Lts as lts
 use Rattle.builder.proofs.build.Reads as build-reads
-use Rattle.words.proofs.wide.Reads as wide-reads
+use Rattle.compiler.proofs.entries_of.Reads as entries-of-reads
+use Rattle.compiler.proofs.grid_of.Reads as grid-of-reads
 use Rattle.compiler.proofs.wipe.Reads as wipe-reads
+use Rattle.words.proofs.wide.Reads as wide-reads
 
 abbrev the-arrays : tie.Start → Arrays
 the-arrays st = holding (st .args .rows .now) (st .args .lengths .now) (st .args .heads .now)
 
-mul-entries : tie.Need-mul-entries
-mul-entries c = search needs
+grid-of-requires : tie.Need-grid-of-requires
+grid-of-requires c κs = let st = c .before .before in (st .pre .0 .most, st .pre .0 .held .few, st .pre .0 .ranged)
+
+entries-of-requires : tie.Need-entries-of-requires
+entries-of-requires c κs =
+    let st = c .before .before .before in
+    let g = c .grid-of in
+    grid-small (st .args .lim) (st .args .k) (st .args .ceiling) (st .args .m) (the-arrays st) (st .pre .0) (g .result) (g .ensures)
+
+returns : tie.Need-returns
+returns c =
+    let st = c .before .before .before .before .before in
+    let g = c .before .before .grid-of in
+    short (st .args .lim) (st .args .k) (st .args .ceiling) (st .args .end) (st .args .m) (the-arrays st) (g .result) (g .ensures) (st .args .work .now) (st .args .out .now)
+    (omega (arith, c .before .entries-of .ensures)) _ refl
 
 wide-requires : tie.Need-wide-requires
 wide-requires c κs = search needs
 
-mul-entries-2 : tie.Need-mul-entries-2
-mul-entries-2 c = search needs
-
-add-entries : tie.Need-add-entries
-add-entries c = search needs
-
-add-entries-2 : tie.Need-add-entries-2
-add-entries-2 c = search needs
-
-mul-entries-3 : tie.Need-mul-entries-3
-mul-entries-3 c =
-    let st = c .before .before .before .before .before in
-    let w = c .before .before .wide in
-    omega (arith, (product-small (work-rows (st .args .ceiling)) (w .result + 1) (work-depth (st .args .m)) (omega (arith, st .pre .0 .most)) (omega (arith, w .ensures .0, st .pre .0 .tags)) (omega (arith, st .pre .0 .held .few))) .0)
-
-mul-entries-4 : tie.Need-mul-entries-4
-mul-entries-4 c =
-    let st = c .before .before .before .before .before .before in
-    let w = c .before .before .before .wide in
-    omega (arith, (product-small (work-rows (st .args .ceiling)) (w .result + 1) (work-depth (st .args .m)) (omega (arith, st .pre .0 .most)) (omega (arith, w .ensures .0, st .pre .0 .tags)) (omega (arith, st .pre .0 .held .few))) .1)
-
-returns : tie.Need-returns
-returns c =
-    let st = c .before .before .before .before .before .before .before in
-    let w = c .before .before .before .before .wide in
-    short (st .args .k) (st .args .ceiling) (st .args .end) (st .args .m) (the-arrays st) (w .result) (w .ensures .0) (st .args .work .now) (st .args .out .now) (omega arith) _ refl
-
-wide-requires-2 : tie.Need-wide-requires-2
-wide-requires-2 c κs = search needs
-
 build-requires : tie.Need-build-requires
 build-requires c κs =
-    let st = c .before .before .before .before .before .before .before .before .before .before in
-    let w = c .before .before .before .before .before .before .before .wide in
-    let l = c .before .before .wide2 in
-    let ok =
-    in-code (st .args .k) (st .args .ceiling) (st .args .end) (st .args .m) (the-arrays st) (w .result) (w .ensures .0) (st .pre .0) (st .pre .1) (l .result)
-    (l .ensures .0)
-    in
-    compilable (w .result) (st .args .ceiling) (l .result) (st .args .m) (the-arrays st) (st .args .work .now) (ok .0) (ok .1) (omega arith)
+    let st = c .before .before .before .before .before .before .before .before in
+    let g = c .before .before .before .before .before .grid-of in
+    let n = c .before .before .before .before .entries-of in
+    let l = c .before .before .wide in
+    let fits = with-end (st .args .lim) (st .args .k) (st .args .ceiling) (st .args .end) (st .args .m) (the-arrays st) (g .result) (g .ensures) (st .pre .1) (l .result) (l .ensures .0) in
+    compilable (st .args .lim) (st .args .k) (st .args .ceiling) (st .args .m) (the-arrays st) (st .pre .0) (g .result) (g .ensures) (l .result) (st .args .work .now) fits
+    (omega (arith, n .ensures))
 
 wipe-requires : tie.Need-wipe-requires
 wipe-requires c κs = search needs
@@ -75,26 +60,23 @@ same-length-2 c = search needs
 
 returns-2 : tie.Need-returns-2
 returns-2 c =
-    let st = c .before .before .before .before .before .before .before .before .before .before .before .before .before .before .before .before .before .before .before in
-    let w = c .before .before .before .before .before .before .before .before .before .before .before .before .before .before .before .before .wide in
-    let l = c .before .before .before .before .before .before .before .before .before .before .before .wide2 in
+    let st = c .before .before .before .before .before .before .before .before .before .before .before .before .before .before .before .before .before in
+    let g = c .before .before .before .before .before .before .before .before .before .before .before .before .before .before .grid-of in
+    let n = c .before .before .before .before .before .before .before .before .before .before .before .before .before .entries-of in
+    let l = c .before .before .before .before .before .before .before .before .before .before .before .wide in
     let u = c .before .before .before .before .before .before .before .before .build in
-    ended (st .args .k) (st .args .ceiling) (st .args .end) (st .args .m) (the-arrays st) (w .result) (w .ensures .0) (l .result) (l .ensures .0)
-    (st .args .work .now) (u .last .0) _ (st .args .out .now) _ _ (omega arith) (u .ensures .0) (u .ensures .1) (c .before .before .wipe .ensures)
+    ended (st .args .lim) (st .args .k) (st .args .ceiling) (st .args .end) (st .args .m) (the-arrays st) (g .result) (g .ensures) (l .result) (l .ensures .0)
+    (st .args .work .now) (u .last .0) _ (st .args .out .now) _ _ (omega (arith, n .ensures, c .before .before .before .before .before .before .before .before .before .before .before .before .if1 .left)) (u .ensures .0) (u .ensures .1)
+    (c .before .before .wipe .ensures ∙ ap (λ (i : ℕ). replicate i 0 ++ drop i (u .last .0)) (n .ensures))
 
 pub compile-read-spec : {M : Type 1} → statement M
 compile-read-spec =
     tie.close
     (tie.spec
-    mul-entries
-    wide-requires
-    mul-entries-2
-    add-entries
-    add-entries-2
-    mul-entries-3
-    mul-entries-4
+    grid-of-requires
+    entries-of-requires
     returns
-    wide-requires-2
+    wide-requires
     build-requires
     wipe-requires
     same-length

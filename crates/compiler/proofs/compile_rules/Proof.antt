@@ -32,15 +32,15 @@ returns c =
     let st = c .before .before .before .before in
     let b = c .before .bad-end in
     let n = length (st .args .work .now) in
-    refused-ended (andThen (fitted (st .args .end) (cascade st)) (roomed (st .args .ceiling) n)) (st .args .ceiling) 14 nothing
-    (bad (st .args .ceiling) (st .args .end) n (cascade st) (b .result) (b .ensures) (c .if1 .taken)) (CompileAnswer.Refused (Bare 14)) refl
+    refused-ended (st .args .lim) (andThen (fitted (st .args .end) (cascade st)) (roomed (st .args .lim) (st .args .ceiling) n)) (st .args .ceiling) 14 nothing
+    (bad (st .args .lim) (st .args .ceiling) (st .args .end) n (cascade st) (b .result) (b .ensures) (c .if1 .taken)) (CompileAnswer.Refused (Bare 14)) refl
     (st .args .work .now) (st .args .out .now)
 
 compile-read-requires : tie.Need-compile-read-requires
 compile-read-requires c κs =
     let st = c .before .before .before .before .before .before in
     let b = c .before .before .before .bad-end in
-    (st .pre, fitting-end (st .args .ceiling) (st .args .end) (length (st .args .work .now)) (cascade st) (b .result) (b .ensures) (c .before .before .if1 .left))
+    (st .pre, fitting-end (st .args .lim) (st .args .ceiling) (st .args .end) (length (st .args .work .now)) (cascade st) (b .result) (b .ensures) (c .before .before .if1 .left))
 
 same-length : tie.Need-same-length
 same-length c = search needs
@@ -52,7 +52,7 @@ returns-2 : tie.Need-returns-2
 returns-2 c =
     let st = c .before .before .before .before .before .before .before .before .before .before .before in
     let b = c .before .before .before .before .before .before .before .before .bad-end in
-    fits-ended (st .args .ceiling) (st .args .end) (length (st .args .work .now)) (cascade st) (b .result) (b .ensures) (c .before .before .before .before .before .before .before .if1 .left)
+    fits-ended (st .args .lim) (st .args .ceiling) (st .args .end) (length (st .args .work .now)) (cascade st) (b .result) (b .ensures) (c .before .before .before .before .before .before .before .if1 .left)
     (st .args .work .now) _ (st .args .out .now) _ _ (c .before .before .before .before .compile-read .ensures)
 
 pub compile-rules-spec : {M : Type 1} → statement M

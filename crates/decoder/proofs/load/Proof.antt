@@ -7,7 +7,11 @@ use Rattle.decoder.proofs.load.Tie as tie
 use Rattle.decoder.proofs.load.Reads as reads
 use Rattle.decoder.proofs.load.Lts as lts
 use Rattle.decoder.proofs.load_end.Reads as load-end-reads
+use Rattle.limits.proofs.most_held.Reads as most-held-reads
 use Rattle.indexing.proofs.read_rows.Reads as read-rows-reads
+
+most-held-requires : tie.Need-most-held-requires
+most-held-requires c κs = c .before .before .before .pre .0 .ranged
 
 read-rows-requires : tie.Need-read-rows-requires
 read-rows-requires c κs = search needs
@@ -24,16 +28,18 @@ same-length c = search needs
 returns : tie.Need-returns
 returns c =
     let call = c .before .before .before .before in
-    let start = call .before .before .before .before in
+    let most = call .before .most-held .ensures in
+    let start = call .before .before .before .before .before in
     let a = start .args in
-    load-not (a .k) (a .s) (a .table .now) (call .read-rows .last .1 .1 .1 .0) (call .read-rows .result) (start .pre .0) (call .read-rows .ensures) (c .enum-told .given .1)
+    load-not (a .k) (a .s) (a .table .now) (call .read-rows .last .1 .1 .1 .0) (call .read-rows .result) (start .pre .0) (rw most at (call .read-rows .ensures)) (c .enum-told .given .1)
 
 load-end-requires : tie.Need-load-end-requires
 load-end-requires c κs =
     let call = c .before .before .before .before .before .before in
-    let start = call .before .before .before .before in
+    let most = call .before .most-held .ensures in
+    let start = call .before .before .before .before .before in
     let a = start .args in
-    load-rows (a .k) (a .s) (a .table .now) (call .read-rows .last .1 .1 .1 .0) (call .read-rows .result) (start .pre .0) (call .read-rows .ensures) (c .before .before .got .given .0 .0) (c .before .before .got .given .1) (omega arith)
+    load-rows (a .k) (a .s) (a .table .now) (call .read-rows .last .1 .1 .1 .0) (call .read-rows .result) (start .pre .0) (rw most at (call .read-rows .ensures)) (c .before .before .got .given .0 .0) (c .before .before .got .given .1) (omega arith)
 
 same-length-2 : tie.Need-same-length-2
 same-length-2 c = search needs
@@ -45,6 +51,7 @@ pub load-spec : {M : Type 1} → statement M
 load-spec =
     tie.close
     (tie.spec
+    most-held-requires
     read-rows-requires
     enum-known-got
     enum-told

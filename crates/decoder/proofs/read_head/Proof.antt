@@ -1,73 +1,33 @@
--- `decoder::read_head` meets its contract: each return is a case of `decode`.
-use native.Mathlib.Omega.{arith}
+-- `decoder::read_head` meets its contract.
 use borrow.Author.Needs.{needs}
-use mathlib.Core.Path.{refl}
-use Rattle.tables.proofs.Words.{below-of}
-use Rattle.decoder.proofs.Head.{head-short, head-long, head-command, head-few-tags, head-many-tags, head-no-states, head-many-states, head-read}
+use borrow.Author.Tests.{not-true, not-false}
+use mathlib.Core.Path.{sym, _∙_}
+use Rattle.limits.proofs.Range.{in-range}
+use Rattle.decoder.proofs.Head.{head-out}
 use Rattle.decoder.proofs.read_head.Statement.{statement}
 use Rattle.decoder.proofs.read_head.Tie as tie
 use Rattle.decoder.proofs.read_head.Reads as reads
 use Rattle.decoder.proofs.read_head.Lts as lts
-use Rattle.steps.proofs.number_at.Reads as number-at-reads
-use Rattle.words.proofs.wide.Reads as wide-reads
+use Rattle.limits.proofs.in_range.Reads as in-range-reads
+use Rattle.decoder.proofs.read_ranged.Reads as read-ranged-reads
+
+in-range-requires : tie.Need-in-range-requires
+in-range-requires c κs = search needs
 
 returns : tie.Need-returns
 returns c =
-    (head-short (c .before .before .args .table .now) (omega arith), refl)
+    let call = c .before in
+    let a = call .before .before .args in
+    head-out (a .lim) (a .table .now) (sym (call .in-range .ensures) ∙ not-true (call .in-range .result) (c .if1 .taken))
+
+read-ranged-requires : tie.Need-read-ranged-requires
+read-ranged-requires c κs =
+    let call = c .before in
+    let a = call .before .before .args in
+    in-range (a .lim) (sym (call .in-range .ensures) ∙ not-false (call .in-range .result) (c .if1 .left))
 
 returns-2 : tie.Need-returns-2
-returns-2 c =
-    (head-long (c .before .before .before .args .table .now) (below-of 0x100 (c .before .before .before .args .table .now) (λ i. omega (arith, c .before .before .shared-slice-known .given i))) (omega arith), refl)
-
-shared-slice-read-if3 : tie.Need-shared-slice-read-if3
-shared-slice-read-if3 c = search needs
-
-returns-3 : tie.Need-returns-3
-returns-3 c =
-    (head-command (c .before .before .before .before .before .args .table .now) (omega arith) (c .if3 .taken), refl)
-
-shared-slice-read-wide : tie.Need-shared-slice-read-wide
-shared-slice-read-wide c = search needs
-
-wide-requires : tie.Need-wide-requires
-wide-requires c κs = search needs
-
-number-at-requires : tie.Need-number-at-requires
-number-at-requires c κs = search needs
-
-returns-4 : tie.Need-returns-4
-returns-4 c =
-    (head-few-tags (c .before .before .before .before .before .before .before .before .before .args .table .now) (omega arith) (omega arith), refl)
-
-returns-5 : tie.Need-returns-5
-returns-5 c =
-    (head-many-tags (c .before .before .before .before .before .before .before .before .before .before .args .table .now) (omega arith) (omega arith), refl)
-
-returns-6 : tie.Need-returns-6
-returns-6 c =
-    (head-no-states (c .before .before .before .before .before .before .before .before .before .before .before .args .table .now) (omega arith) (omega arith), refl)
-
-returns-7 : tie.Need-returns-7
-returns-7 c =
-    (head-many-states (c .before .before .before .before .before .before .before .before .before .before .before .before .args .table .now) (omega arith) (omega arith), refl)
-
-returns-8 : tie.Need-returns-8
-returns-8 c =
-    head-read (c .before .before .before .before .before .before .before .before .before .before .before .before .args .table .now) (omega arith) _ _ (omega arith) (search needs) (search needs) (search needs) (omega arith) (omega arith) (omega arith) (omega arith)
+returns-2 c = search needs
 
 pub read-head-spec : {M : Type 1} → statement M
-read-head-spec =
-    tie.close
-    (tie.spec
-    returns
-    returns-2
-    shared-slice-read-if3
-    returns-3
-    shared-slice-read-wide
-    wide-requires
-    number-at-requires
-    returns-4
-    returns-5
-    returns-6
-    returns-7
-    returns-8)
+read-head-spec = tie.close (tie.spec in-range-requires returns read-ranged-requires returns-2)

@@ -9,6 +9,7 @@ use mathlib.Core.List.{List}
 use lib.ListN.{length}
 use Rattle.words.specs.Decides.{Decides}
 use Rattle.steps.proofs.Places.{row-inside, row-next}
+use Rattle.limits.specs.declared.Limits.{Limits}
 use Rattle.decoder.specs.Index.{Loaded}
 use Rattle.loaded.specs.Numbers.{firstResting}
 use Rattle.entries.specs.State.{RestsIn}
@@ -23,13 +24,13 @@ abbrev Inv-loop : tie.InvT-loop
 Inv-loop index k s q₀ cell₀ q cell =
     (q ≤ s)
     × (cell ≡ q * (k + 1))
-    × ((bs : List ℕ) (l : Loaded bs k index) → length (l .table) ≡ s → firstResting (l .table) s 0 ≡ firstResting (l .table) (s - q) q)
+    × ((lim : Limits) (bs : List ℕ) (l : Loaded lim bs k index) → length (l .table) ≡ s → firstResting (l .table) s 0 ≡ firstResting (l .table) (s - q) q)
 
 abbrev μ-loop : tie.MeasureT-loop
 μ-loop index k s q₀ cell₀ q cell = s - q
 
 loop-holds : tie.Need-loop-holds Inv-loop μ-loop
-loop-holds c = (omega arith, omega (arith, zero-mul (c .before .args .k + 1)), λ bs l e. let z : c .before .args .s ≡ c .before .args .s - 0 = omega arith in ap (λ (n : ℕ). firstResting (l .table) n 0) z)
+loop-holds c = (omega arith, omega (arith, zero-mul (c .before .args .k + 1)), λ lim bs l e. let z : c .before .args .s ≡ c .before .args .s - 0 = omega arith in ap (λ (n : ℕ). firstResting (l .table) n 0) z)
 
 rests-requires : tie.Need-rests-requires Inv-loop μ-loop
 rests-requires c κs =
@@ -46,14 +47,14 @@ add-result c =
     omega (arith, row-inside (l .q) (a .s) (a .k) (length (a .index .now)) (omega arith) (st .pre), l .inv .1)
 
 returns : tie.Need-returns Inv-loop μ-loop
-returns c = λ bs l e.
+returns c = λ lim bs l e.
     let a = c .before .before .before .before .before .args in
     let lp = c .before .before .before .loop in
     let r = c .before .rests in
     let d = subst (λ (i : ℕ). Decides (r .result) (RestsIn (a .index .now) (a .k) i)) (lp .inv .1) (r .ensures) in
     let rests-q = decided-rests bs (a .index .now) (a .k) l (lp .q) (omega (arith, e)) (r .result) d ∙ (c .if1 .taken) in
     let left : a .s - lp .q ≡ suc (a .s - (lp .q + 1)) = omega arith in
-    let is = lp .inv .2 bs l e ∙ ap (λ (n : ℕ). firstResting (l .table) n (lp .q)) left ∙ resting-here bs (a .index .now) (a .k) l (a .s - (lp .q + 1)) (lp .q) rests-q in
+    let is = lp .inv .2 lim bs l e ∙ ap (λ (n : ℕ). firstResting (l .table) n (lp .q)) left ∙ resting-here bs (a .index .now) (a .k) l (a .s - (lp .q + 1)) (lp .q) rests-q in
     ap (λ (n : ℕ). n + 1) (lp .inv .1) ∙ ap (λ (n : ℕ). n * (a .k + 1) + 1) (sym is)
 
 add-cell : tie.Need-add-cell Inv-loop μ-loop
@@ -83,11 +84,11 @@ loop-again c =
     let r = c .before .rests in (
       omega arith,
       omega (arith, row-next (lp .q) (a .k), lp .inv .1),
-      λ bs l e.
+      λ lim bs l e.
           let d = subst (λ (i : ℕ). Decides (r .result) (RestsIn (a .index .now) (a .k) i)) (lp .inv .1) (r .ensures) in
           let rests-q = decided-rests bs (a .index .now) (a .k) l (lp .q) (omega (arith, e)) (r .result) d ∙ (c .if1 .left) in
           let left : a .s - lp .q ≡ suc (a .s - (lp .q + 1)) = omega arith in
-          lp .inv .2 bs l e ∙ ap (λ (n : ℕ). firstResting (l .table) n (lp .q)) left
+          lp .inv .2 lim bs l e ∙ ap (λ (n : ℕ). firstResting (l .table) n (lp .q)) left
           ∙ resting-next bs (a .index .now) (a .k) l (a .s - (lp .q + 1)) (lp .q) rests-q ∙ ap (firstResting (l .table) (a .s - (lp .q + 1))) (sym (add-one (lp .q))),
     )
 
@@ -99,11 +100,11 @@ add-result-2 c =
     omega (arith, l .inv .1, ap (λ (n : ℕ). n * (st .args .k + 1)) all, st .pre)
 
 returns-2 : tie.Need-returns-2 Inv-loop μ-loop
-returns-2 c = λ bs l e.
+returns-2 c = λ lim bs l e.
     let a = c .before .before .before .args in
     let lp = c .before .loop in
     let none : a .s - lp .q ≡ 0 = omega arith in
-    let is = lp .inv .2 bs l e ∙ ap (λ (n : ℕ). firstResting (l .table) n (lp .q)) none in
+    let is = lp .inv .2 lim bs l e ∙ ap (λ (n : ℕ). firstResting (l .table) n (lp .q)) none in
     ap (λ (n : ℕ). n + 1) (lp .inv .1) ∙ ap (λ (n : ℕ). n * (a .k + 1) + 1) (sym is)
 
 pub first-resting-spec : {M : Type 1} → statement M

@@ -23,7 +23,7 @@ sub-if1 c = search needs
 returns : tie.Need-returns
 returns c =
     let a = c .before .before .before .args in
-    (row-short (a .k) (a .s) (a .table .now) (a .at) (omega arith), λ i h. refl)
+    (row-short (a .most) (a .k) (a .s) (a .table .now) (a .at) (omega arith), λ i h. refl)
 
 shared-slice-read-if2 : tie.Need-shared-slice-read-if2
 shared-slice-read-if2 c = search needs
@@ -31,7 +31,7 @@ shared-slice-read-if2 c = search needs
 returns-2 : tie.Need-returns-2
 returns-2 c =
     let a = c .before .before .before .before .before .args in
-    (row-other (a .k) (a .s) (a .table .now) (a .at) (omega arith) (c .if2 .taken), λ i h. refl)
+    (row-other (a .most) (a .k) (a .s) (a .table .now) (a .at) (omega arith) (c .if2 .taken), λ i h. refl)
 
 add-wide : tie.Need-add-wide
 add-wide c = search needs
@@ -45,7 +45,7 @@ wide-requires c κs = search needs
 returns-3 : tie.Need-returns-3
 returns-3 c =
     let a = c .before .before .before .before .before .before .before .before .args in
-    (row-held (a .k) (a .s) (a .table .now) (a .at) (omega arith) (search needs) (omega arith), λ i h. refl)
+    (row-held (a .most) (a .k) (a .s) (a .table .now) (a .at) (omega arith) (search needs) (omega arith), λ i h. refl)
 
 add-from : tie.Need-add-from
 add-from c = search needs
@@ -62,7 +62,7 @@ add-if4 c = search needs
 returns-4 : tie.Need-returns-4
 returns-4 c =
     let a = c .before .before .before .before .before .before .before .before .before .before .args in
-    (row-count (a .k) (a .s) (a .table .now) (a .at) (omega arith) (search needs) (omega arith) (λ e. c .if4 .taken (omega arith)), λ i h. refl)
+    (row-count (a .most) (a .k) (a .s) (a .table .now) (a .at) (omega arith) (search needs) (omega arith) (λ e. c .if4 .taken (omega arith)), λ i h. refl)
 
 add-entry : tie.Need-add-entry
 add-entry c = search needs
@@ -103,7 +103,7 @@ returns-5 c =
     let here =
     final-cell bs w (a .at + 2) (length w) e (omega (arith, made .entry .ensures)) (made .entry .ensures .2) refl
     (word-stands 0x32 (a .k) bs (a .at + 2) (omega arith)) in (
-      row-whole (a .k) (a .s) bs (a .at) (omega arith) (made .before .before .before .before .before .before .if2 .left) (omega arith) y (a .cell)
+      row-whole (a .most) (a .k) (a .s) bs (a .at) (omega arith) (made .before .before .before .before .before .before .if2 .left) (omega arith) y (a .cell)
           (made .before .before .word-end .result)
           (omega arith)
           (search needs)

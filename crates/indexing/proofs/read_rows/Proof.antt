@@ -19,19 +19,19 @@ use Rattle.indexing.proofs.read_rows.Lts as lts
 use Rattle.indexing.proofs.read_row.Reads as read-row-reads
 
 abbrev Inv-loop : tie.InvT-loop
-Inv-loop table k s index₀ to₀ q₀ cell₀ index to q cell =
+Inv-loop table k s index₀ most to₀ q₀ cell₀ index to q cell =
     (q ≤ s)
     × (cell ≡ q * (k + 1))
     × (length index ≡ length index₀)
-    × Progress (readRow k s) rowBytes no-row (λ i r. RowEntries k table index (i * (k + 1)) r) table 4 q to
+    × Progress (readRow most k s) rowBytes no-row (λ i r. RowEntries k table index (i * (k + 1)) r) table 4 q to
 
 abbrev μ-loop : tie.MeasureT-loop
-μ-loop table k s index₀ to₀ q₀ cell₀ index to q cell = s - q
+μ-loop table k s index₀ most to₀ q₀ cell₀ index to q cell = s - q
 
 loop-holds : tie.Need-loop-holds Inv-loop μ-loop
 loop-holds c =
     let a = c .before .before .args in
-    (omega arith, omega (arith, zero-mul (a .k + 1)), refl, progress-none (readRow (a .k) (a .s)) rowBytes no-row (a .table .now) 4 _ (search needs))
+    (omega arith, omega (arith, zero-mul (a .k + 1)), refl, progress-none (readRow (a .most) (a .k) (a .s)) rowBytes no-row (a .table .now) 4 _ (search needs))
 
 read-row-requires : tie.Need-read-row-requires Inv-loop μ-loop
 read-row-requires c κs =
@@ -57,7 +57,7 @@ returns c =
     let bs = a .table .now in
     let x = b .loop .index in
     let y = call .read-row .last .1 .1 .1 .1 .0 in
-    stopped (readRow k (a .s)) rowBytes no-row bs 4
+    stopped (readRow (a .most) k (a .s)) rowBytes no-row bs 4
     (λ i r. RowEntries k bs x (i * (k + 1)) r)
     (λ r. RowEntries k bs y (b .loop .cell) r)
     (b .loop .q)
@@ -98,7 +98,7 @@ loop-again c =
       omega arith,
       omega (arith, row-next (b .loop .q) k),
       search needs,
-      turn (readRow k (a .s)) rowBytes no-row bs 4
+      turn (readRow (a .most) k (a .s)) rowBytes no-row bs 4
           (λ i r. RowEntries k bs x (i * (k + 1)) r)
           (λ r. RowEntries k bs y (b .loop .cell) r)
           (b .loop .q)
@@ -120,7 +120,7 @@ returns-2 : tie.Need-returns-2 Inv-loop μ-loop
 returns-2 c =
     let a = c .before .before .before .before .args in
     let e : c .before .loop .q ≡ a .s = omega arith in
-    rw e at (progress-all (readRow (a .k) (a .s)) rowBytes no-row (a .table .now) 4 _ (c .before .loop .q) (c .before .loop .to) (c .before .loop .inv .3))
+    rw e at (progress-all (readRow (a .most) (a .k) (a .s)) rowBytes no-row (a .table .now) 4 _ (c .before .loop .q) (c .before .loop .to) (c .before .loop .inv .3))
 
 pub read-rows-spec : {M : Type 1} → statement M
 read-rows-spec =

@@ -12,7 +12,7 @@ use Rattle.measuring.proofs.fits.Lts as lts
 use Rattle.measuring.proofs.measure.Reads as measure-reads
 
 returns : tie.Need-returns
-returns c = λ bs l e all.
+returns c = λ lim bs l e all.
     record {
       so = λ t. omega (arith, all, numbers-few (c .before .before .args .k) (l .table) (l .valid));
       not = λ t. absurd (false≢true (sym t));
@@ -22,9 +22,9 @@ measure-requires : tie.Need-measure-requires
 measure-requires c κs = search needs
 
 returns-2 : tie.Need-returns-2
-returns-2 c = λ bs l e all.
+returns-2 c = λ lim bs l e all.
     let a = c .before .before .before .args in
-    let n = c .measure .ensures bs l e in
+    let n = c .measure .ensures lim bs l e in
     record {
       so = λ t. omega (arith, n, leb-true (c .measure .result) (a .room) t);
       not = λ t h. omega (arith, n, leb-false (c .measure .result) (a .room) t, h);

@@ -8,6 +8,7 @@ use mathlib.Core.List.{List}
 use lib.ListN.{length, drop}
 use Rattle.tables.specs.Bytes.{joined}
 use Rattle.steps.proofs.Places.{row-inside, row-next}
+use Rattle.limits.specs.declared.Limits.{Limits}
 use Rattle.decoder.specs.Index.{Loaded}
 use Rattle.loaded.specs.Numbers.{rowAt, rowBehind, numbers}
 use Rattle.entries.proofs.Numbers.{rows-most}
@@ -23,7 +24,7 @@ Inv-loop index k s total₀ cell₀ q₀ total cell q =
     (q ≤ s)
     × (cell ≡ q * (k + 1))
     × (total ≤ 25089 + 12544 * q)
-    × ((bs : List ℕ) (l : Loaded bs k index) → length (l .table) ≡ s → total + length (joined rowBehind (drop q (l .table))) ≡ length (numbers k (l .table)))
+    × ((lim : Limits) (bs : List ℕ) (l : Loaded lim bs k index) → length (l .table) ≡ s → total + length (joined rowBehind (drop q (l .table))) ≡ length (numbers k (l .table)))
 
 abbrev μ-loop : tie.MeasureT-loop
 μ-loop index k s total₀ cell₀ q₀ total cell q = s - q
@@ -47,7 +48,7 @@ loop-holds c =
       omega arith,
       omega (arith, zero-mul (a .k + 1)),
       omega (arith, st .pre, rows-most (st .args .s) (st .args .k) (st .pre .2) (st .pre .1)),
-      λ bs l e. ap (λ (n : ℕ). rowAt (a .k) n + length (joined rowBehind (l .table))) (sym e) ∙ total-start bs (a .index .now) (a .k) l,
+      λ lim bs l e. ap (λ (n : ℕ). rowAt (a .k) n + length (joined rowBehind (l .table))) (sym e) ∙ total-start bs (a .index .now) (a .k) l,
     )
 
 measure-row-requires : tie.Need-measure-row-requires Inv-loop μ-loop
@@ -88,15 +89,15 @@ loop-again c =
       omega arith,
       omega (arith, row-next (lp .q) (a .k), lp .inv .1),
       omega (arith, lp .inv .2, m .ensures .1),
-      λ bs l e.
-          total-next bs (a .index .now) (a .k) l (lp .total) (m .result) (lp .q) (omega (arith, e)) (lp .inv .3 bs l e) (m .ensures .0 bs l (lp .q) (omega (arith, e)) (lp .inv .1)),
+      λ lim bs l e.
+          total-next bs (a .index .now) (a .k) l (lp .total) (m .result) (lp .q) (omega (arith, e)) (lp .inv .3 lim bs l e) (m .ensures .0 lim bs l (lp .q) (omega (arith, e)) (lp .inv .1)),
     )
 
 returns : tie.Need-returns Inv-loop μ-loop
-returns c = λ bs l e.
+returns c = λ lim bs l e.
     let a = c .before .before .before .args in
     let lp = c .before .loop in
-    total-end bs (a .index .now) (a .k) l (lp .total) (lp .q) (omega (arith, e)) (lp .inv .3 bs l e)
+    total-end bs (a .index .now) (a .k) l (lp .total) (lp .q) (omega (arith, e)) (lp .inv .3 lim bs l e)
 
 pub measure-spec : {M : Type 1} → statement M
 measure-spec =

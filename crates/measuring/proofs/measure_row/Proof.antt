@@ -6,6 +6,7 @@ use mathlib.Core.Path.{_≡_, sym, _∙_}
 use mathlib.Core.List.{List}
 use lib.ListN.{length, drop, getD}
 use Rattle.transducers.specs.Table.{no-step, row}
+use Rattle.limits.specs.declared.Limits.{Limits}
 use Rattle.decoder.specs.Index.{Loaded}
 use Rattle.loaded.specs.Numbers.{stepsBehind, rowBehind}
 use Rattle.measuring.proofs.Total.{held-count, step-count, measure-start, measure-next, measure-end}
@@ -20,7 +21,7 @@ abbrev Inv-loop : tie.InvT-loop
 Inv-loop index k cell total₀ a₀ total a =
     (a ≤ k)
     × (total ≤ 0x100 * (a + 1))
-    × ((bs : List ℕ) (l : Loaded bs k index) (q : ℕ) → q < length (l .table) → cell ≡ q * (k + 1)
+    × ((lim : Limits) (bs : List ℕ) (l : Loaded lim bs k index) (q : ℕ) → q < length (l .table) → cell ≡ q * (k + 1)
     → total + length (stepsBehind (drop a (row (l .table) q .steps))) ≡ length (rowBehind (row (l .table) q)))
 
 abbrev μ-loop : tie.MeasureT-loop
@@ -45,7 +46,7 @@ loop-holds c =
     let b = c .behind-of in (
       omega arith,
       omega (arith, b .ensures .1, n .ensures),
-      λ bs l q h is.
+      λ lim bs l q h is.
           measure-start bs (x .index .now) (x .k) l q (x .cell) h is (b .result)
           (b .ensures .0 (row (l .table) q .final) (sym (n .ensures .0 ∙ held-count bs (x .index .now) (x .k) l q (x .cell) h is))),
     )
@@ -85,8 +86,8 @@ loop-again c =
     let b = c .behind-of2 in (
       omega arith,
       omega (arith, lp .inv .1, b .ensures .1, n .ensures),
-      λ bs l q h is.
-          measure-next bs (x .index .now) (x .k) l q (x .cell) h is (lp .total) (b .result) (lp .a) (omega arith) (lp .inv .2 bs l q h is)
+      λ lim bs l q h is.
+          measure-next bs (x .index .now) (x .k) l q (x .cell) h is (lp .total) (b .result) (lp .a) (omega arith) (lp .inv .2 lim bs l q h is)
           (b .ensures .0 (getD (row (l .table) q .steps) (lp .a) no-step .output) (sym (n .ensures .0 ∙ step-count bs (x .index .now) (x .k) l q (x .cell) h is (lp .a) (omega arith)))),
     )
 
@@ -95,7 +96,7 @@ returns c =
     let st = c .before .before .before .before .before .before in
     let x = st .args in
     let lp = c .before .loop in
-    (λ bs l q h is. measure-end bs (x .index .now) (x .k) l q (x .cell) h is (lp .total) (lp .a) (omega arith) (lp .inv .2 bs l q h is), omega (arith, lp .inv .1, st .pre .1))
+    (λ lim bs l q h is. measure-end bs (x .index .now) (x .k) l q (x .cell) h is (lp .total) (lp .a) (omega arith) (lp .inv .2 lim bs l q h is), omega (arith, lp .inv .1, st .pre .1))
 
 pub measure-row-spec : {M : Type 1} → statement M
 measure-row-spec =

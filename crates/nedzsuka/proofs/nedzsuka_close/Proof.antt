@@ -3,6 +3,7 @@ use borrow.Author.Needs.{needs}
 use native.Mathlib.Omega.{arith}
 use mathlib.Core.Path.{subst}
 use lib.ListN.{length}
+use Rattle.limits.specs.Limits.{standard}
 use Rattle.tables.proofs.Words.{below-of}
 use Rattle.typing.specs.Typing.{close, Hands}
 use Rattle.typing.specs.declared.Sentence.{Sentence}
@@ -30,7 +31,7 @@ hand-on-requires c κs =
     let a = known .before .args in
     let sentence = of .sentence-of .result in
     let bytes = below-of 0x100 (a .table .now) (λ i. omega (arith, known .shared-slice-known .given i)) in
-    legible-typed _ _ _ (call .close .result) (call .close .ensures) (legible-close (a .table .now) bytes sentence (length (a .out .now)))
+    legible-typed _ _ _ (call .close .result) (call .close .ensures) (legible-close standard (a .table .now) bytes sentence (length (a .out .now)))
 
 same-length : tie.Need-same-length
 same-length c = search needs
@@ -44,7 +45,7 @@ returns c =
     let sentence = of .sentence-of .result in
     let after = call .close .last .1 .1 .0 in
     let hands =
-    subst (λ (s : Sentence). Hands (close (a .table .now) s (length (a .out .now))) (a .out .now) after (call .close .result)) (of .sentence-of .ensures) (call .close .ensures)
+    subst (λ (s : Sentence). Hands (close standard (a .table .now) s (length (a .out .now))) (a .out .now) after (call .close .result)) (of .sentence-of .ensures) (call .close .ensures)
     in
     type-call _ _ after (call .close .result) hands _ _ (c .hand-on .result) (c .hand-on .ensures .0) (c .hand-on .ensures .1)
 

@@ -2,6 +2,7 @@
 use borrow.Author.Needs.{needs}
 use mathlib.Core.Path.{sym, ap, _∙_, subst}
 use lib.ListN.{length}
+use Rattle.limits.specs.Limits.{standard}
 use Rattle.packing.specs.Packed.{packed, Legible}
 use Rattle.nedzsuka.proofs.Legible.{legible-compile}
 use Rattle.nedzsuka.proofs.nedzsuka_compile_ending.Statement.{statement}
@@ -22,7 +23,7 @@ returns c =
 pack-compile-requires : tie.Need-pack-compile-requires
 pack-compile-requires c κs =
     let a = c .before .before .before .before .before .before .before .before .before .before .args in
-    subst Legible (sym (c .before .before .before .before .compile-ending .ensures .0)) (legible-compile (a .book .now) (a .end) (a .ceiling) (length (a .work .now)) (length (a .out .now)))
+    subst Legible (sym (c .before .before .before .before .compile-ending .ensures .0)) (legible-compile standard (a .book .now) (a .end) (a .ceiling) (length (a .work .now)) (length (a .out .now)))
 
 same-length : tie.Need-same-length
 same-length c = search needs

@@ -3,6 +3,7 @@ use borrow.Author.Needs.{needs}
 use native.Mathlib.Omega.{arith}
 use mathlib.Core.Path.{subst}
 use lib.ListN.{length}
+use Rattle.limits.specs.Limits.{standard}
 use Rattle.tables.proofs.Words.{below-of}
 use Rattle.typing.specs.Typing.{give, Hands}
 use Rattle.typing.specs.declared.Sentence.{Sentence}
@@ -30,7 +31,7 @@ hand-on-requires c κs =
     let a = known .before .args in
     let sentence = of .sentence-of .result in
     let bytes = below-of 0x100 (a .table .now) (λ i. omega (arith, known .shared-slice-known .given i)) in
-    legible-typed _ _ _ (call .give .result) (call .give .ensures) (legible-give (a .table .now) bytes sentence (length (a .out .now)) _)
+    legible-typed _ _ _ (call .give .result) (call .give .ensures) (legible-give standard (a .table .now) bytes sentence (length (a .out .now)) _)
 
 same-length : tie.Need-same-length
 same-length c = search needs
@@ -44,7 +45,7 @@ returns c =
     let sentence = of .sentence-of .result in
     let after = call .give .last .1 .1 .1 .0 in
     let hands =
-    subst (λ (s : Sentence). Hands (give (a .table .now) s (a .tag) (length (a .out .now))) (a .out .now) after (call .give .result)) (of .sentence-of .ensures) (call .give .ensures)
+    subst (λ (s : Sentence). Hands (give standard (a .table .now) s (a .tag) (length (a .out .now))) (a .out .now) after (call .give .result)) (of .sentence-of .ensures) (call .give .ensures)
     in
     type-call _ _ after (call .give .result) hands _ _ (c .hand-on .result) (c .hand-on .ensures .0) (c .hand-on .ensures .1)
 

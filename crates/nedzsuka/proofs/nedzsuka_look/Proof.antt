@@ -3,6 +3,7 @@ use borrow.Author.Needs.{needs}
 use native.Mathlib.Omega.{arith}
 use mathlib.Core.Path.{ap, _∙_, subst}
 use lib.ListN.{length}
+use Rattle.limits.specs.Limits.{standard}
 use Rattle.tables.proofs.Words.{below-of}
 use Rattle.packing.specs.Packed.{packed}
 use Rattle.typing.specs.Typing.{look, Hands}
@@ -30,7 +31,7 @@ pack-written-requires c κs =
     let known = of .before .before in
     let a = known .before .args in
     let bytes = below-of 0x100 (a .table .now) (λ i. omega (arith, known .shared-slice-known .given i)) in
-    legible-typed _ _ _ (call .look .result) (call .look .ensures) (legible-held (a .table .now) bytes (of .sentence-of .result) (length (a .out .now)))
+    legible-typed _ _ _ (call .look .result) (call .look .ensures) (legible-held standard (a .table .now) bytes (of .sentence-of .result) (length (a .out .now)))
 
 same-length : tie.Need-same-length
 same-length c = search needs
@@ -42,7 +43,7 @@ returns c =
     let a = of .before .before .before .args in
     let after = call .look .last .1 .1 .0 in
     let hands =
-    subst (λ (s : Sentence). Hands (look (a .table .now) s (length (a .out .now))) (a .out .now) after (call .look .result)) (of .sentence-of .ensures) (call .look .ensures)
+    subst (λ (s : Sentence). Hands (look standard (a .table .now) s (length (a .out .now))) (a .out .now) after (call .look .result)) (of .sentence-of .ensures) (call .look .ensures)
     in
     (c .pack-written .ensures ∙ ap packed (hands .filled .answered), hands .filled .wrote)
 

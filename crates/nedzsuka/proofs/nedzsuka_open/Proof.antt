@@ -1,6 +1,7 @@
 -- `nedzsuka::nedzsuka_open` meets its contract.
 use borrow.Author.Needs.{needs}
 use mathlib.Core.Path.{sym, ap, _∙_, subst}
+use Rattle.limits.specs.Limits.{standard}
 use Rattle.answers.specs.Outcome.{Outcome}
 use Rattle.packing.specs.Packed.{packed, Legible}
 use Rattle.typing.specs.declared.Sentence.{Sentence}
@@ -28,7 +29,7 @@ returns c =
 hand-opened-requires : tie.Need-hand-opened-requires
 hand-opened-requires c κs =
     let call = c .before .before .before in
-    subst (λ (o : Outcome Sentence). Legible (openedAs o)) (sym (call .«open» .ensures)) (legible-open (call .before .before .args .table .now))
+    subst (λ (o : Outcome Sentence). Legible (openedAs o)) (sym (call .«open» .ensures)) (legible-open standard (call .before .before .args .table .now))
 
 pub nedzsuka-open-spec : {M : Type 1} → statement M
 nedzsuka-open-spec = tie.close (tie.spec open-requires hand-opened-requires returns)

@@ -2,7 +2,7 @@
 use borrow.Author.Needs.{needs}
 use mathlib.Core.Path.{sym, ap, _∙_, subst}
 use lib.ListN.{length}
-use Rattle.limits.specs.Limits.{no-end}
+use Rattle.limits.specs.Limits.{no-end, standard}
 use Rattle.packing.specs.Packed.{packed, Legible}
 use Rattle.nedzsuka.proofs.Legible.{legible-book}
 use Rattle.nedzsuka.proofs.nedzsuka_run_book.Statement.{statement}
@@ -23,7 +23,7 @@ returns c =
 pack-run-requires : tie.Need-pack-run-requires
 pack-run-requires c κs =
     let a = c .before .before .before .before .before .before .before .args in
-    subst Legible (sym (c .before .before .run-book .ensures .answered)) (legible-book (a .book .now) no-end (a .sentence .now) (length (a .out .now)))
+    subst Legible (sym (c .before .before .run-book .ensures .answered)) (legible-book standard (a .book .now) no-end (a .sentence .now) (length (a .out .now)))
 
 same-length : tie.Need-same-length
 same-length c = search needs

@@ -1,6 +1,7 @@
 -- `nedzsuka::nedzsuka_run_book_rules` meets its contract.
 use borrow.Author.Needs.{needs}
 use mathlib.Core.Path.{sym, ap, _∙_, subst}
+use Rattle.limits.specs.Limits.{standard}
 use Rattle.packing.specs.Packed.{packed, Legible}
 use Rattle.nedzsuka.proofs.Legible.{legible-book}
 use Rattle.nedzsuka.proofs.nedzsuka_run_book_rules.Statement.{statement}
@@ -21,7 +22,7 @@ returns c =
 pack-run-requires : tie.Need-pack-run-requires
 pack-run-requires c κs =
     let a = c .before .before .before .before .before .before .before .before .before .before .before .args in
-    subst Legible (sym (c .before .before .before .before .run-book-rules .ensures .0 .answered)) (legible-book (a .book .now) (a .end) (a .sentence .now) _)
+    subst Legible (sym (c .before .before .before .before .run-book-rules .ensures .0 .answered)) (legible-book standard (a .book .now) (a .end) (a .sentence .now) _)
 
 same-length : tie.Need-same-length
 same-length c = search needs

@@ -1,40 +1,52 @@
 -- `reader::read_commands` meets its contract.
 use borrow.Author.Needs.{needs}
-use Prim.Native.Nat.{_+_, _-_, _≤_}
+use Prim.Native.Nat.{_+_, _-_, _≤_, _<_}
 use native.Mathlib.Omega.{arith}
 use mathlib.Core.Path.{_≡_, refl, _∙_, sym, ap}
-use lib.ListN.{length}
+use lib.ListN.{length, getD}
 use Rattle.limits.specs.Limits.{most-rules}
 use Rattle.books.specs.Arrays.{holding, Shaped}
 use Rattle.books.specs.Resume.{readCommands, cascadeOutcome}
 use Rattle.books.specs.declared.BookAnswer.{BookAnswer}
 use Rattle.books.proofs.Commands.{command-missing}
-use Rattle.books.proofs.Resume.{refused-ends, book-goes-on}
+use Rattle.books.proofs.Resume.{refused-ends, rule-goes-on, tags-end, tags-go-on}
 use Rattle.reader.proofs.read_commands.Statement.{statement}
 use Rattle.reader.proofs.read_commands.Tie as tie
 use Rattle.reader.proofs.read_commands.Reads as reads
 use Rattle.reader.proofs.read_commands.Lts as lts
-use Rattle.commands.proofs.add_tag.Reads as add-tag-reads
 use Rattle.commands.proofs.end_book.Reads as end-book-reads
-use Rattle.reader.proofs.read_rule.Reads as read-rule-reads
+use Rattle.commands.proofs.read_tags.Reads as read-tags-reads
 use Rattle.commands.proofs.refused.Reads as refused-reads
+use Rattle.reader.proofs.read_rule.Reads as read-rule-reads
 
 abbrev Inv-loop : tie.InvT-loop
-Inv-loop s k0 m0 rows₀ lengths₀ heads₀ k₀ m₀ at₀ rows lengths heads k m at =
-    (m ≤ most-rules) × (at ≤ length s) × Shaped (holding rows lengths heads)
-    × (readCommands s k m (holding rows lengths heads) at ≡ readCommands s k0 m0 (holding rows₀ lengths₀ heads₀) 2)
+Inv-loop s k rows₀ lengths₀ heads₀ lim m₀ at₀ rows lengths heads m at =
+    (m ≤ most-rules) × (at ≤ length s) × (at < length s → getD s at 0 ≡ 0x22 → m ≡ 0) × Shaped (holding rows lengths heads)
+    × (readCommands lim s k m (holding rows lengths heads) at ≡ readCommands lim s k 0 (holding rows₀ lengths₀ heads₀) 2)
 
 abbrev μ-loop : tie.MeasureT-loop
-μ-loop s k0 m0 rows₀ lengths₀ heads₀ k₀ m₀ at₀ rows lengths heads k m at = length s - at
+μ-loop s k rows₀ lengths₀ heads₀ lim m₀ at₀ rows lengths heads m at = length s - at
 
 loop-holds : tie.Need-loop-holds Inv-loop μ-loop
-loop-holds c = let st = c .before in (st .pre .1 .0, st .pre .1 .1, st .pre .0, refl)
+loop-holds c = let st = c .before in (omega arith, st .pre .1 .0, λ i e. refl, st .pre .0, refl)
 
 shared-slice-read-command : tie.Need-shared-slice-read-command Inv-loop μ-loop
 shared-slice-read-command c = search needs
 
-add-tag-requires : tie.Need-add-tag-requires Inv-loop μ-loop
-add-tag-requires c κs = search needs
+end-book-requires : tie.Need-end-book-requires Inv-loop μ-loop
+end-book-requires c κs = search needs
+
+returns : tie.Need-returns Inv-loop μ-loop
+returns c =
+    let st = c .before .before .before .before .before .before .before .before .before in
+    let l = c .before .before .before .before .before .before .before .loop in
+    record { outcome = c .end-book .ensures (st .args .lim) ∙ l .inv .4; shaped = l .inv .3 }
+
+read-rule-requires : tie.Need-read-rule-requires Inv-loop μ-loop
+read-rule-requires c κs =
+    let st = c .before .before .before .before .before .before .before .before in
+    let l = c .before .before .before .before .before .before .loop in
+    (l .inv .3, ((l .inv .0, omega arith, search needs, l .inv .2 (omega arith)), st .pre .1 .1))
 
 enum-known-got : tie.Need-enum-known-got Inv-loop μ-loop
 enum-known-got c = search needs
@@ -42,79 +54,92 @@ enum-known-got c = search needs
 enum-told : tie.Need-enum-told Inv-loop μ-loop
 enum-told c = search needs
 
-returns : tie.Need-returns Inv-loop μ-loop
-returns c =
-    let l = c .before .before .before .before .before .before .before .before .before in
-    let s = c .before .before .before .before .before .before .before .before .before .before .before .args .s .now in
-    let r = c .before .before .add-tag in
-    refused-ends s _ _ (l .loop .at + 1 + 1) _ (r .result) _ (c .enum-told .given .1) (r .ensures) (l .loop .inv .3)
-
-add-at : tie.Need-add-at Inv-loop μ-loop
-add-at c = omega (arith, c .before .before .before .add-tag .ensures .inside _ _ (c .before .got .given .1) .1)
-
-loop-less : tie.Need-loop-less Inv-loop μ-loop
-loop-less c = omega (arith, c .before .before .before .add-tag .ensures .inside _ _ (c .before .got .given .1) .1)
-
-loop-again : tie.Need-loop-again Inv-loop μ-loop
-loop-again c =
-    let l = c .before .before .before .before .before .before .before .before .before .before in
-    let s = c .before .before .before .before .before .before .before .before .before .before .before .before .args .s .now in
-    let r = c .before .before .before .add-tag in
-    let book = c .before .got .given in
-    book-goes-on s _ _ (l .loop .at + 1 + 1) (l .loop .at + 2) _ (r .result) (book .0 .0) (book .0 .1 .0) (r .ensures) (book .1) (l .loop .inv .3) (omega arith)
-
-end-book-requires : tie.Need-end-book-requires Inv-loop μ-loop
-end-book-requires c κs = search needs
-
 returns-2 : tie.Need-returns-2 Inv-loop μ-loop
 returns-2 c =
-    let l = c .before .before .before .before .before .before .before .before in
-    record { outcome = c .end-book .ensures ∙ l .loop .inv .3; shaped = l .loop .inv .2 }
-
-read-rule-requires : tie.Need-read-rule-requires Inv-loop μ-loop
-read-rule-requires c κs = search needs
-
-enum-known-got-2 : tie.Need-enum-known-got-2 Inv-loop μ-loop
-enum-known-got-2 c = search needs
-
-enum-told-2 : tie.Need-enum-told-2 Inv-loop μ-loop
-enum-told-2 c = search needs
-
-returns-3 : tie.Need-returns-3 Inv-loop μ-loop
-returns-3 c =
-    let l = c .before .before .before .before .before .before .before .before .before .before in
-    let s = c .before .before .before .before .before .before .before .before .before .before .before .before .args .s .now in
+    let st = c .before .before .before .before .before .before .before .before .before .before .before in
+    let l = c .before .before .before .before .before .before .before .before .before .loop in
+    let s = st .args .s .now in
     let r = c .before .before .read-rule in
-    refused-ends s _ _ (l .loop .at + 1 + 1 + 1) _ (r .result) _ (c .enum-told2 .given .1) (r .ensures) (l .loop .inv .3)
+    refused-ends s _ _ (l .at + 1 + 1 + 1) _ (r .result) _ (c .enum-told .given .1) (r .ensures .0) (l .inv .4)
 
-add-at-2 : tie.Need-add-at-2 Inv-loop μ-loop
-add-at-2 c = omega (arith, c .before .before .before .read-rule .ensures .inside _ _ (c .before .got2 .given .1) .1)
+add-read-tags : tie.Need-add-read-tags Inv-loop μ-loop
+add-read-tags c = omega (arith, c .before .before .before .read-rule .ensures .0 .inside _ _ (c .before .got .given .1) .1)
 
-loop-less-2 : tie.Need-loop-less-2 Inv-loop μ-loop
-loop-less-2 c = omega (arith, c .before .before .before .read-rule .ensures .inside _ _ (c .before .got2 .given .1) .1)
+mul-read-tags : tie.Need-mul-read-tags Inv-loop μ-loop
+mul-read-tags c = omega (arith, c .before .before .before .read-rule .ensures .1 .one-more _ _ (c .before .got .given .1) .2)
 
-loop-again-2 : tie.Need-loop-again-2 Inv-loop μ-loop
-loop-again-2 c =
-    let l = c .before .before .before .before .before .before .before .before .before .before .before in
-    let s = c .before .before .before .before .before .before .before .before .before .before .before .before .before .args .s .now in
-    let r = c .before .before .before .read-rule in
-    let book = c .before .got2 .given in
-    book-goes-on s _ _ (l .loop .at + 1 + 1 + 1) (l .loop .at + 3) _ (r .result) (book .0 .0) (book .0 .1 .0) (r .ensures) (book .1) (l .loop .inv .3) (omega arith)
+index-1-read-tags : tie.Need-index-1-read-tags Inv-loop μ-loop
+index-1-read-tags c = c .before .before .before .read-rule .ensures .1 .one-more _ _ (c .before .got .given .1) .2
+
+read-tags-requires : tie.Need-read-tags-requires Inv-loop μ-loop
+read-tags-requires c κs =
+    let st = c .before .before .before .before .before .before .before .before .before .before .before .before .before in
+    let l = c .before .before .before .before .before .before .before .before .before .before .before .loop in
+    let s = st .args .s .now in
+    let r = c .before .before .before .before .read-rule in
+    let book = c .before .before .got .given in
+    let on = rule-goes-on s _ _ (st .args .k) (l .m) (l .at + 1 + 1 + 1) (l .at + 3) _ (r .result) (book .0 .0) (book .0 .1 .0) (r .ensures .0) (r .ensures .1) (book .1) (l .inv .4) (omega arith) in
+    (on .2, on .3 .row-long (l .m) (on .1), st .pre .1 .1 .short-pattern)
+
+enum-known-tags : tie.Need-enum-known-tags Inv-loop μ-loop
+enum-known-tags c = search needs
 
 refused-requires : tie.Need-refused-requires Inv-loop μ-loop
 refused-requires c κs = search needs
 
+returns-3 : tie.Need-returns-3 Inv-loop μ-loop
+returns-3 c =
+    let st = c .before .before .before .before .before .before .before .before .before .before .before .before .before .before .before .before .before .before in
+    let l = c .before .before .before .before .before .before .before .before .before .before .before .before .before .before .before .before .loop in
+    let s = st .args .s .now in
+    let r = c .before .before .before .before .before .before .before .before .before .read-rule in
+    let book = c .before .before .before .before .before .before .before .got .given in
+    let on = rule-goes-on s _ _ (st .args .k) (l .m) (l .at + 1 + 1 + 1) (l .at + 3) _ (r .result) (book .0 .0) (book .0 .1 .0) (r .ensures .0) (r .ensures .1) (book .1) (l .inv .4) (omega arith) in
+    let tags = c .before .before .before .before .read-tags in
+    let told = c .before .before .tags .given in
+    tags-end (st .args .lim) s (st .args .k) (l .m) (l .at + 3) _ _ _ (tags .result) (on .3) (on .1) (on .4) (tags .ensures) (on .5) (told .0 .0) (told .0 .1 .0) (c .refused .result) (told .1) (c .refused .ensures)
+
+enum-known-tags-2 : tie.Need-enum-known-tags-2 Inv-loop μ-loop
+enum-known-tags-2 c = search needs
+
+mul-lengths : tie.Need-mul-lengths Inv-loop μ-loop
+mul-lengths c = omega (arith, c .before .before .before .before .before .before .before .before .read-rule .ensures .1 .one-more _ _ (c .before .before .before .before .before .before .got .given .1) .2)
+
+element-write-lengths : tie.Need-element-write-lengths Inv-loop μ-loop
+element-write-lengths c = c .before .before .before .before .before .before .before .before .read-rule .ensures .1 .one-more _ _ (c .before .before .before .before .before .before .got .given .1) .2
+
+loop-less : tie.Need-loop-less Inv-loop μ-loop
+loop-less c =
+    let inside = c .before .before .before .read-tags .ensures .inside _ _ (c .before .tags2 .given .1) in
+    omega (arith, inside .0, inside .1)
+
+loop-again : tie.Need-loop-again Inv-loop μ-loop
+loop-again c =
+    let st = c .before .before .before .before .before .before .before .before .before .before .before .before .before .before .before .before .before in
+    let l = c .before .before .before .before .before .before .before .before .before .before .before .before .before .before .before .loop in
+    let s = st .args .s .now in
+    let r = c .before .before .before .before .before .before .before .before .read-rule in
+    let book = c .before .before .before .before .before .before .got .given in
+    let on = rule-goes-on s _ _ (st .args .k) (l .m) (l .at + 1 + 1 + 1) (l .at + 3) _ (r .result) (book .0 .0) (book .0 .1 .0) (r .ensures .0) (r .ensures .1) (book .1) (l .inv .4) (omega arith) in
+    let tags = c .before .before .before .read-tags in
+    let told = c .before .tags2 .given in
+    tags-go-on (st .args .lim) s (st .args .k) (l .m) (l .at + 3) _ _ _ (tags .result) (on .3) (on .1) (on .4) (tags .ensures) (on .5) (told .0 .0) (told .0 .1 .0) (book .0 .1 .0) (told .1) (on .0)
+
+refused-requires-2 : tie.Need-refused-requires-2 Inv-loop μ-loop
+refused-requires-2 c κs = search needs
+
 returns-4 : tie.Need-returns-4 Inv-loop μ-loop
 returns-4 c =
-    let l = c .before .before in
-    let s = c .before .before .before .before .args .s .now in
-    let a = holding (l .loop .rows) (l .loop .lengths) (l .loop .heads) in
+    let st = c .before .before .before .before in
+    let l = c .before .before .loop in
+    let s = st .args .s .now in
+    let a = holding (l .rows) (l .lengths) (l .heads) in
     record {
       outcome =
-          ap (λ (r : BookAnswer). cascadeOutcome r a) (c .refused .ensures)
-          ∙ sym (command-missing s (l .loop .k) (l .loop .m) a (l .loop .at) (omega arith))
-          ∙ l .loop .inv .3;
-      shaped = l .loop .inv .2;
+          ap (λ (r : BookAnswer). cascadeOutcome r a) (c .refused2 .ensures)
+          ∙ sym (command-missing (st .args .lim) s (st .args .k) (l .m) a (l .at) (omega arith))
+          ∙ l .inv .4;
+      shaped = l .inv .3;
     }
 
 pub read-commands-spec : {M : Type 1} → statement M
@@ -125,21 +150,23 @@ read-commands-spec =
     μ-loop
     loop-holds
     shared-slice-read-command
-    add-tag-requires
+    end-book-requires
+    returns
+    read-rule-requires
     enum-known-got
     enum-told
-    returns
-    add-at
+    returns-2
+    add-read-tags
+    mul-read-tags
+    index-1-read-tags
+    read-tags-requires
+    enum-known-tags
+    refused-requires
+    returns-3
+    enum-known-tags-2
+    mul-lengths
+    element-write-lengths
     loop-less
     loop-again
-    end-book-requires
-    returns-2
-    read-rule-requires
-    enum-known-got-2
-    enum-told-2
-    returns-3
-    add-at-2
-    loop-less-2
-    loop-again-2
-    refused-requires
+    refused-requires-2
     returns-4)

@@ -1,7 +1,8 @@
 -- `reader::read_into` meets its contract.
-use mathlib.Core.Path.{refl}
+use mathlib.Core.Path.{refl, sym, ap, _∙_}
 use Rattle.books.specs.Read.{read}
 use Rattle.books.specs.Arrays.{holding}
+use Rattle.books.specs.Resume.{readCommands}
 use Rattle.books.proofs.Resume.{refused-ends, book-goes-on, ends-whole}
 use borrow.Author.Needs.{needs}
 use Rattle.reader.proofs.read_into.Statement.{statement}
@@ -26,7 +27,8 @@ returns c =
     let a = holding (st .args .rows .now) (st .args .lengths .now) (st .args .heads .now) in
     let o = c .before .before .open-book in
     let s = st .args .s .now in
-    ends-whole s (read s) a (o .result) refl (refused-ends s (read s) (read s) 2 a (o .result) _ (c .enum-told .given .1) (o .ensures a (st .pre)) refl)
+    let lim = st .args .lim in
+    ends-whole s (read lim s) a (o .result) refl (refused-ends s (read lim s) (read lim s) 2 a (o .result) _ (c .enum-told .given .1) (o .ensures .0 a (st .pre .0)) refl)
 
 read-commands-requires : tie.Need-read-commands-requires
 read-commands-requires c κs =
@@ -34,9 +36,10 @@ read-commands-requires c κs =
     let a = holding (st .args .rows .now) (st .args .lengths .now) (st .args .heads .now) in
     let o = c .before .before .before .before .before .before .open-book in
     let s = st .args .s .now in
+    let lim = st .args .lim in
     let b = c .before .before .before .before .opened .given in
-    let on = book-goes-on s (read s) (read s) 2 2 a (o .result) _ _ (o .ensures a (st .pre)) (b .1) refl refl in
-    (st .pre, (on .0, on .1))
+    let on = book-goes-on s (read lim s) (read lim s) 2 2 a (o .result) _ _ (o .ensures .0 a (st .pre .0)) (b .1) refl refl in
+    (st .pre .0, (on .1, st .pre .1))
 
 returns-2 : tie.Need-returns-2
 returns-2 c =
@@ -44,9 +47,11 @@ returns-2 c =
     let a = holding (st .args .rows .now) (st .args .lengths .now) (st .args .heads .now) in
     let o = c .before .before .before .before .before .before .before .open-book in
     let s = st .args .s .now in
+    let lim = st .args .lim in
     let b = c .before .before .before .before .before .opened .given in
-    let on = book-goes-on s (read s) (read s) 2 2 a (o .result) _ _ (o .ensures a (st .pre)) (b .1) refl refl in
-    ends-whole s _ _ (c .read-commands .result) (on .3) (c .read-commands .ensures)
+    let on = book-goes-on s (read lim s) (read lim s) 2 2 a (o .result) _ _ (o .ensures .0 a (st .pre .0)) (b .1) refl refl in
+    let none = o .ensures .1 _ _ (b .1) in
+    ends-whole s _ _ (c .read-commands .result) (ap (λ m. readCommands lim s (b .0 .0) m a 2) (sym none) ∙ on .3) (c .read-commands .ensures)
 
 pub read-into-spec : {M : Type 1} → statement M
 read-into-spec =

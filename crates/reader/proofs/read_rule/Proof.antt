@@ -8,7 +8,7 @@ use Rattle.cascades.specs.Rule.{once, everywhere}
 use Rattle.books.specs.Arrays.{holding}
 use Rattle.books.specs.Resume.{readCommands}
 use Rattle.books.proofs.Commands.{command-unknown}
-use Rattle.books.proofs.Resume.{resumes-refused}
+use Rattle.books.proofs.Resume.{resumes-refused, opens-refused}
 use Rattle.reader.proofs.read_rule.Statement.{statement}
 use Rattle.reader.proofs.read_rule.Tie as tie
 use Rattle.reader.proofs.read_rule.Reads as reads
@@ -25,9 +25,12 @@ open-rule-requires c κs =
     let command = getD (st .args .s .now) (st .args .at) 0 in (
       st .pre .0,
       (
-        st .pre .1 .0,
+        (
+          st .pre .1 .0 .0,
+          st .pre .1 .0 .1,
+          elim (c .before .before .if1 .came) [ inl is ↦ (once, is .taken) | inr is ↦ (everywhere, eqb-true command 0x24 (is .1 .taken)) ],
+        ),
         st .pre .1 .1,
-        elim (c .before .before .if1 .came) [ inl is ↦ (once, is .taken) | inr is ↦ (everywhere, eqb-true command 0x24 (is .1 .taken)) ],
       ),
     )
 
@@ -42,9 +45,11 @@ returns-2 c =
     let st = c .before .before .before .before .before in
     let s = st .args .s .now in
     let a = holding (st .args .rows .now) (st .args .lengths .now) (st .args .heads .now) in
-    let from = readCommands s (st .args .k) (st .args .m) a (st .args .at) in
-    resumes-refused s from (st .args .at + 1 + 1 + 1) a (st .pre .0) (c .refused .result) 1 (st .args .at) (c .refused .ensures)
-    (command-unknown s (st .args .k) (st .args .m) a (st .args .at) (st .pre .1 .1) (st .pre .1 .2) (c .before .before .if1 .left) (eqb-false (getD s (st .args .at) 0) 0x24 (c .before .if2 .left)) (st .pre .1 .3))
+    let from = readCommands (st .args .lim) s (st .args .k) (st .args .m) a (st .args .at) in (
+      resumes-refused s from (st .args .at + 1 + 1 + 1) a (st .pre .0) (c .refused .result) 1 (st .args .at) (c .refused .ensures)
+          (command-unknown (st .args .lim) s (st .args .k) (st .args .m) a (st .args .at) (st .pre .1 .0 .1) (st .pre .1 .0 .2) (c .before .before .if1 .left) (eqb-false (getD s (st .args .at) 0) 0x24 (c .before .if2 .left)) (st .pre .1 .0 .3)),
+      opens-refused (st .args .k) (st .args .m) a (c .refused .result) 1 (st .args .at) (c .refused .ensures),
+    )
 
 pub read-rule-spec : {M : Type 1} → statement M
 read-rule-spec =

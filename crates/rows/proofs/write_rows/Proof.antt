@@ -9,7 +9,7 @@ use Rattle.steps.proofs.Places.{row-inside, row-next}
 use Rattle.loaded.specs.Numbers.{rowAt}
 use Rattle.entries.proofs.Numbers.{rows-most}
 use Rattle.rows.specs.Parts.{Source}
-use Rattle.rows.proofs.Tables.{RowsGoing, rows-start, rows-end, row-here, rows-next, row-step, row-before}
+use Rattle.rows.proofs.Tables.{RowsGoing, source-tags, rows-start, rows-end, row-here, rows-next, row-step, row-before}
 use Rattle.rows.proofs.write_rows.Statement.{statement}
 use Rattle.rows.proofs.write_rows.Tie as tie
 use Rattle.rows.proofs.write_rows.Reads as reads
@@ -30,22 +30,22 @@ abbrev μ-loop : tie.MeasureT-loop
 mul-place : tie.Need-mul-place Inv-loop μ-loop
 mul-place c =
     let st = c .before .before .before in
-    omega (arith, st .pre .valid .tags-most, rows-most (st .args .s) (st .args .k) (omega (arith, st .pre .long, st .pre .valid .states-most)) (st .pre .valid .tags-most))
+    omega (arith, source-tags (st .pre), rows-most (st .args .s) (st .args .k) (omega (arith, st .pre .long, st .pre .valid .states-most)) (source-tags (st .pre)))
 
 add-place : tie.Need-add-place Inv-loop μ-loop
 add-place c =
     let st = c .before .before .before in
-    omega (arith, st .pre .valid .tags-most, rows-most (st .args .s) (st .args .k) (omega (arith, st .pre .long, st .pre .valid .states-most)) (st .pre .valid .tags-most))
+    omega (arith, source-tags (st .pre), rows-most (st .args .s) (st .args .k) (omega (arith, st .pre .long, st .pre .valid .states-most)) (source-tags (st .pre)))
 
 mul-place-2 : tie.Need-mul-place-2 Inv-loop μ-loop
 mul-place-2 c =
     let st = c .before .before .before in
-    omega (arith, st .pre .valid .tags-most, rows-most (st .args .s) (st .args .k) (omega (arith, st .pre .long, st .pre .valid .states-most)) (st .pre .valid .tags-most))
+    omega (arith, source-tags (st .pre), rows-most (st .args .s) (st .args .k) (omega (arith, st .pre .long, st .pre .valid .states-most)) (source-tags (st .pre)))
 
 add-place-2 : tie.Need-add-place-2 Inv-loop μ-loop
 add-place-2 c =
     let st = c .before .before .before in
-    omega (arith, st .pre .valid .tags-most, rows-most (st .args .s) (st .args .k) (omega (arith, st .pre .long, st .pre .valid .states-most)) (st .pre .valid .tags-most))
+    omega (arith, source-tags (st .pre), rows-most (st .args .s) (st .args .k) (omega (arith, st .pre .long, st .pre .valid .states-most)) (source-tags (st .pre)))
 
 loop-holds : tie.Need-loop-holds Inv-loop μ-loop
 loop-holds c =
@@ -80,19 +80,19 @@ mul-p : tie.Need-mul-p Inv-loop μ-loop
 mul-p c =
     let st = c .before .before .before .before .before .before .before .before .before in
     let l = c .before .before .before .before .before .loop in
-    omega (arith, st .pre .valid .tags-most, l .inv .2, row-before (st .args .k) (l .q) (st .args .s) (omega arith), rows-most (st .args .s) (st .args .k) (omega (arith, st .pre .long, st .pre .valid .states-most)) (st .pre .valid .tags-most))
+    omega (arith, source-tags (st .pre), l .inv .2, row-before (st .args .k) (l .q) (st .args .s) (omega arith), rows-most (st .args .s) (st .args .k) (omega (arith, st .pre .long, st .pre .valid .states-most)) (source-tags (st .pre)))
 
 add-p : tie.Need-add-p Inv-loop μ-loop
 add-p c =
     let st = c .before .before .before .before .before .before .before .before .before in
     let l = c .before .before .before .before .before .loop in
-    omega (arith, st .pre .valid .tags-most, l .inv .2, row-before (st .args .k) (l .q) (st .args .s) (omega arith), rows-most (st .args .s) (st .args .k) (omega (arith, st .pre .long, st .pre .valid .states-most)) (st .pre .valid .tags-most))
+    omega (arith, source-tags (st .pre), l .inv .2, row-before (st .args .k) (l .q) (st .args .s) (omega arith), rows-most (st .args .s) (st .args .k) (omega (arith, st .pre .long, st .pre .valid .states-most)) (source-tags (st .pre)))
 
 add-p-2 : tie.Need-add-p-2 Inv-loop μ-loop
 add-p-2 c =
     let st = c .before .before .before .before .before .before .before .before .before in
     let l = c .before .before .before .before .before .loop in
-    omega (arith, st .pre .valid .tags-most, l .inv .2, row-before (st .args .k) (l .q) (st .args .s) (omega arith), rows-most (st .args .s) (st .args .k) (omega (arith, st .pre .long, st .pre .valid .states-most)) (st .pre .valid .tags-most))
+    omega (arith, source-tags (st .pre), l .inv .2, row-before (st .args .k) (l .q) (st .args .s) (omega arith), rows-most (st .args .s) (st .args .k) (omega (arith, st .pre .long, st .pre .valid .states-most)) (source-tags (st .pre)))
 
 add-q : tie.Need-add-q Inv-loop μ-loop
 add-q c = search needs

@@ -1,72 +1,41 @@
 -- `tagger::run_book` meets its contract.
 use borrow.Author.Needs.{needs}
-use Prim.Native.Nat.{ℕ}
-use mathlib.Core.Path.{subst}
-use mathlib.Core.List.{List}
+use mathlib.Core.Path.{_∙_, sym}
 use lib.ListN.{length}
 use Rattle.limits.specs.Limits.{no-end}
-use Rattle.answers.specs.Outcome.{Outcome}
-use Rattle.sentences.specs.Run.{Ran}
+use Rattle.limits.proofs.Range.{in-range}
+use Rattle.answers.specs.declared.Refusal.the-variants.{Bare}
 use Rattle.sentences.proofs.Run.{ran-refused}
-use Rattle.books.specs.Arrays.{holding}
-use Rattle.books.proofs.Arrays.{fresh-shaped}
-use Rattle.tagging.specs.Run.{bookRun}
 use Rattle.cascades.specs.Rewrite.{behavior}
-use Rattle.tagger.proofs.Run.{book-refused, book-runs-whole, applicable}
+use Rattle.tagging.specs.Run.{bookRun}
+use Rattle.tagger.proofs.Run.{limits-refused}
 use Rattle.tagger.proofs.run_book.Statement.{statement}
 use Rattle.tagger.proofs.run_book.Tie as tie
 use Rattle.tagger.proofs.run_book.Reads as reads
 use Rattle.tagger.proofs.run_book.Lts as lts
-use Rattle.reader.proofs.read_into.Reads as read-into-reads
-use Rattle.running.proofs.run_rules.Reads as run-rules-reads
+use Rattle.limits.proofs.in_range.Reads as in-range-reads
+use Rattle.tagger.proofs.run_whole.Reads as run-whole-reads
 
-read-into-requires : tie.Need-read-into-requires
-read-into-requires c κs = fresh-shaped
+in-range-requires : tie.Need-in-range-requires
+in-range-requires c κs = search needs
 
-enum-known-got : tie.Need-enum-known-got
-enum-known-got c = search needs
-
-enum-known-got-2 : tie.Need-enum-known-got-2
-enum-known-got-2 c = search needs
-
-run-rules-requires : tie.Need-run-rules-requires
-run-rules-requires c κs =
-    let st = c .before .before .before .before .before .before .before .before .before .before .before .before .before .before in
-    let r = c .before .before .before .before .before .before .before .read-into in
-    let a = holding (r .last .1 .0) (r .last .1 .1 .0) (r .last .1 .1 .1 .0) in
-    let book = c .before .before .before .before .before .got2 .given in
-    applicable (st .args .book .now) a (r .result) (r .ensures) (book .0 .0) (book .0 .1 .0) (book .1)
-
-returns : tie.Need-returns
-returns c =
-    let st = c .before .before .before .before .before .before .before .before .before .before in
-    let r = c .before .before .before .read-into in
-    let a = holding (r .last .1 .0) (r .last .1 .1 .0) (r .last .1 .1 .1 .0) in
-    ran-refused (bookRun (st .args .book .now) no-end (st .args .sentence .now) (length (st .args .out .now))) (st .args .sentence .now) (st .args .out .now) (c .before .got .given .0 .0)
-    (book-refused (st .args .book .now) a (r .result) (r .ensures) behavior no-end (st .args .sentence .now) (length (st .args .out .now)) _ (c .before .got .given .1))
+run-whole-requires : tie.Need-run-whole-requires
+run-whole-requires c κs =
+    let a = c .before .before .before .before .before .before .args in
+    in-range (a .lim) (sym (c .before .before .in-range .ensures) ∙ c .before .if1 .taken)
 
 same-length : tie.Need-same-length
 same-length c = search needs
 
+returns : tie.Need-returns
+returns c = c .before .before .run-whole .ensures
+
 returns-2 : tie.Need-returns-2
 returns-2 c =
-    let st = c .before .before .before .before .before .before .before .before .before .before .before .before .before .before .before .before .before in
-    let r = c .before .before .before .before .before .before .before .before .before .before .read-into in
-    let a = holding (r .last .1 .0) (r .last .1 .1 .0) (r .last .1 .1 .1 .0) in
-    let book = c .before .before .before .before .before .before .before .before .got2 .given in
-    let u = c .before .before .run-rules in
-    subst (λ (o : Outcome (List ℕ)). Ran o (st .args .sentence .now) (st .args .out .now) (u .last .1 .0) (u .result))
-    (book-runs-whole (st .args .book .now) a (r .result) (r .ensures) (book .0 .0) (book .0 .1 .0) (book .1) (st .args .sentence .now) (length (st .args .out .now)))
-    (u .ensures)
+    let a = c .before .before .before .before .before .args in
+    let room = length (a .out .now) in
+    ran-refused (bookRun (a .lim) (a .book .now) no-end (a .sentence .now) room) (a .sentence .now) (a .out .now) (Bare 17)
+    (limits-refused (a .lim) behavior (a .book .now) no-end (a .sentence .now) room (sym (c .before .in-range .ensures) ∙ c .if1 .left))
 
 pub run-book-spec : {M : Type 1} → statement M
-run-book-spec =
-    tie.close
-    (tie.spec
-    read-into-requires
-    enum-known-got
-    enum-known-got-2
-    run-rules-requires
-    returns
-    same-length
-    returns-2)
+run-book-spec = tie.close (tie.spec in-range-requires run-whole-requires same-length returns returns-2)

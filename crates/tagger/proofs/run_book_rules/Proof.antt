@@ -1,24 +1,41 @@
 -- `tagger::run_book_rules` meets its contract.
 use native.Mathlib.Omega.{arith}
 use borrow.Author.Needs.{needs}
-use Prim.Native.Nat.{ℕ}
-use mathlib.Core.Path.{subst, ap, _∙_}
+use Prim.Native.Nat.{ℕ, min}
+use mathlib.Core.Path.{subst, sym, ap, _∙_}
+use lib.ListN.{length}
+use Rattle.limits.proofs.Range.{in-range}
 use Rattle.answers.specs.Slice.{written}
+use Rattle.answers.specs.declared.Refusal.the-variants.{Bare}
 use Rattle.sentences.specs.Run.{Ran}
+use Rattle.sentences.proofs.Run.{ran-refused}
+use Rattle.cascades.specs.Rewrite.{behavior}
+use Rattle.running.specs.Rules.{numbers}
+use Rattle.running.proofs.Run.{numbers-kept}
+use Rattle.tagging.specs.Reading.{reading}
 use Rattle.tagging.specs.Run.{bookRun}
 use Rattle.tagging.specs.Numbers.{bookNumbers}
+use Rattle.tagger.proofs.Run.{limits-refused}
 use Rattle.tagger.proofs.run_book_rules.Statement.{statement}
 use Rattle.tagger.proofs.run_book_rules.Tie as tie
 use Rattle.tagger.proofs.run_book_rules.Reads as reads
 use Rattle.tagger.proofs.run_book_rules.Lts as lts
-use Rattle.tagger.proofs.run_into.Reads as run-into-reads
+use Rattle.limits.proofs.in_range.Reads as in-range-reads
+use Rattle.tagger.proofs.run_within.Reads as run-within-reads
 use Rattle.words.proofs.lesser.Reads as lesser-reads
+
+in-range-requires : tie.Need-in-range-requires
+in-range-requires c κs = search needs
 
 lesser-requires : tie.Need-lesser-requires
 lesser-requires c κs = search needs
 
-run-into-requires : tie.Need-run-into-requires
-run-into-requires c κs = omega (arith, c .before .before .lesser .ensures)
+run-within-requires : tie.Need-run-within-requires
+run-within-requires c κs =
+    let st = c .before .before .before .before .before .before .before .before .before in (
+      omega (arith, c .before .before .lesser .ensures),
+      in-range (st .args .lim) (sym (c .before .before .before .before .in-range .ensures) ∙ c .before .before .before .if1 .taken),
+    )
 
 same-length : tie.Need-same-length
 same-length c = search needs
@@ -28,13 +45,25 @@ same-length-2 c = search needs
 
 returns : tie.Need-returns
 returns c =
-    let a = c .before .before .before .before .before .before .before .before .before .before .before .before .args in
+    let a = c .before .before .before .before .before .before .before .before .before .before .before .before .before .before .args in
     let l = c .before .before .before .before .before .before .before .lesser in
-    let u = c .before .before .before .before .run-into in (
-      subst (λ (n : ℕ). Ran (bookRun (a .book .now) (a .end) (a .sentence .now) n) (a .sentence .now) (a .out .now) (u .last .1 .1 .1 .0) (u .result)) (l .ensures) (u .ensures .0),
-      u .ensures .1 (omega (arith, l .ensures)) ∙ ap (λ (n : ℕ). written (bookNumbers (a .book .now) (a .end) (a .sentence .now) n) (a .rules .now)) (l .ensures),
+    let u = c .before .before .before .before .run-within in (
+      subst (λ (n : ℕ). Ran (bookRun (a .lim) (a .book .now) (a .end) (a .sentence .now) n) (a .sentence .now) (a .out .now) (u .last .1 .1 .1 .0) (u .result)) (l .ensures) (u .ensures .0),
+      u .ensures .1 (omega (arith, l .ensures)) ∙ ap (λ (n : ℕ). written (bookNumbers (a .lim) (a .book .now) (a .end) (a .sentence .now) n) (a .rules .now)) (l .ensures),
+    )
+
+returns-2 : tie.Need-returns-2
+returns-2 c =
+    let a = c .before .before .before .before .before .before .args in
+    let room = min (length (a .out .now)) (length (a .rules .now)) in
+    let out = sym (c .before .in-range .ensures) ∙ c .if1 .left in (
+      ran-refused (reading (a .lim) behavior (a .book .now) (a .end) (a .sentence .now) room) (a .sentence .now) (a .out .now) (Bare 17)
+          (limits-refused (a .lim) behavior (a .book .now) (a .end) (a .sentence .now) room out),
+      numbers-kept (reading (a .lim) numbers (a .book .now) (a .end) (a .sentence .now) room) (Bare 17) (a .rules .now)
+          (limits-refused (a .lim) numbers (a .book .now) (a .end) (a .sentence .now) room out),
     )
 
 pub run-book-rules-spec : {M : Type 1} → statement M
 run-book-rules-spec =
-    tie.close (tie.spec lesser-requires run-into-requires same-length same-length-2 returns)
+    tie.close
+    (tie.spec in-range-requires lesser-requires run-within-requires same-length same-length-2 returns returns-2)

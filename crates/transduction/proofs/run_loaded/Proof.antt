@@ -1,7 +1,7 @@
 -- `transduction::run_loaded` meets its contract.
 use native.Mathlib.Omega.{arith}
 use borrow.Author.Needs.{needs}
-use Rattle.transduction.proofs.Runs.{run-refused, run-ready, run-front, run-changed}
+use Rattle.transduction.proofs.Runs.{loaded-tags, run-refused, run-ready, run-front, run-changed}
 use Rattle.transduction.proofs.run_loaded.Statement.{statement}
 use Rattle.transduction.proofs.run_loaded.Tie as tie
 use Rattle.transduction.proofs.run_loaded.Reads as reads
@@ -11,7 +11,11 @@ use Rattle.sentences.proofs.count_changes.Reads as count-changes-reads
 use Rattle.transduction.proofs.transduce.Reads as transduce-reads
 
 cast-admit : tie.Need-cast-admit
-cast-admit c = search needs
+cast-admit c =
+    let start = c .before .before .before .before in
+    let a = start .args in
+    let few = loaded-tags (a .lim) (a .table .now) (a .k) (a .index .now) (start .pre) in
+    search needs
 
 admit-requires : tie.Need-admit-requires
 admit-requires c κs = search needs
@@ -25,7 +29,7 @@ returns c =
     let start = call .before .before .before .before .before in
     let a = start .args in
     let told = c .before .admission .given in
-    run-refused (a .table .now) (a .sentence .now) (a .out .now) (a .k) (a .index .now) (start .pre) (call .admit .result) (call .admit .ensures) (told .0 .0) (told .1)
+    run-refused (a .lim) (a .table .now) (a .sentence .now) (a .out .now) (a .k) (a .index .now) (start .pre) (call .admit .result) (call .admit .ensures) (told .0 .0) (told .1)
 
 enum-told : tie.Need-enum-told
 enum-told c = search needs
@@ -36,7 +40,7 @@ transduce-requires c κs =
     let call = told .before .before in
     let start = call .before .before .before .before .before in
     let a = start .args in
-    run-ready (a .table .now) (a .sentence .now) (a .out .now) (a .k) (a .index .now) (start .pre) (call .admit .result) (call .admit .ensures) (told .enum-told .given .1)
+    run-ready (a .lim) (a .table .now) (a .sentence .now) (a .out .now) (a .k) (a .index .now) (start .pre) (call .admit .result) (call .admit .ensures) (told .enum-told .given .1)
 
 slice-reshare-prefix-count-changes : tie.Need-slice-reshare-prefix-count-changes
 slice-reshare-prefix-count-changes c =
@@ -44,7 +48,7 @@ slice-reshare-prefix-count-changes c =
     let call = told .before .before in
     let start = call .before .before .before .before .before in
     let a = start .args in
-    omega (arith, run-ready (a .table .now) (a .sentence .now) (a .out .now) (a .k) (a .index .now) (start .pre) (call .admit .result) (call .admit .ensures) (told .enum-told .given .1) .room)
+    omega (arith, run-ready (a .lim) (a .table .now) (a .sentence .now) (a .out .now) (a .k) (a .index .now) (start .pre) (call .admit .result) (call .admit .ensures) (told .enum-told .given .1) .room)
 
 slice-aggregate-count-changes : tie.Need-slice-aggregate-count-changes
 slice-aggregate-count-changes c =
@@ -53,7 +57,7 @@ slice-aggregate-count-changes c =
     let start = call .before .before .before .before .before in
     let a = start .args in
     let made = c .before .before .before in
-    run-front (a .table .now) (a .sentence .now) (a .out .now) (a .k) (a .index .now) (start .pre) (call .admit .result) (call .admit .ensures) (told .enum-told .given .1) (made .transduce .last .1 .1 .1 .0) (made .transduce .ensures)
+    run-front (a .lim) (a .table .now) (a .sentence .now) (a .out .now) (a .k) (a .index .now) (start .pre) (call .admit .result) (call .admit .ensures) (told .enum-told .given .1) (made .transduce .last .1 .1 .1 .0) (made .transduce .ensures)
 
 count-changes-requires : tie.Need-count-changes-requires
 count-changes-requires c κs =
@@ -62,7 +66,7 @@ count-changes-requires c κs =
     let start = call .before .before .before .before .before in
     let a = start .args in
     let made = c .before .before .before in
-    run-front (a .table .now) (a .sentence .now) (a .out .now) (a .k) (a .index .now) (start .pre) (call .admit .result) (call .admit .ensures) (told .enum-told .given .1) (made .transduce .last .1 .1 .1 .0) (made .transduce .ensures)
+    run-front (a .lim) (a .table .now) (a .sentence .now) (a .out .now) (a .k) (a .index .now) (start .pre) (call .admit .result) (call .admit .ensures) (told .enum-told .given .1) (made .transduce .last .1 .1 .1 .0) (made .transduce .ensures)
 
 same-length : tie.Need-same-length
 same-length c = search needs
@@ -74,7 +78,7 @@ returns-2 c =
     let start = call .before .before .before .before .before in
     let a = start .args in
     let made = c .before .before .before .before in
-    run-changed (a .table .now) (a .sentence .now) (a .out .now) (a .k) (a .index .now) (start .pre) (call .admit .result) (call .admit .ensures) (told .enum-told .given .1) (made .transduce .last .1 .1 .1 .0) (made .transduce .ensures) (c .count-changes .result) (c .count-changes .ensures)
+    run-changed (a .lim) (a .table .now) (a .sentence .now) (a .out .now) (a .k) (a .index .now) (start .pre) (call .admit .result) (call .admit .ensures) (told .enum-told .given .1) (made .transduce .last .1 .1 .1 .0) (made .transduce .ensures) (c .count-changes .result) (c .count-changes .ensures)
 
 pub run-loaded-spec : {M : Type 1} → statement M
 run-loaded-spec =

@@ -20,7 +20,7 @@ returns c =
     let call = c .before .before .before in
     let a = call .before .before .before .before .before .before .args in
     let r = call .load .result in
-    tell-not-loaded (a .table .now) (a .k) (a .cell) (a .sentence .now) (a .out .now) (call .load .last .1 .1 .1 .0) r (call .load .ensures) (not-true r (c .if1 .taken))
+    tell-not-loaded (a .lim) (a .table .now) (a .k) (a .cell) (a .sentence .now) (a .out .now) (call .load .last .1 .1 .1 .0) r (call .load .ensures) (not-true r (c .if1 .taken))
 
 run-loaded-requires : tie.Need-run-loaded-requires
 run-loaded-requires c κs =
@@ -28,13 +28,13 @@ run-loaded-requires c κs =
     let call = else .before .before .before in
     let a = call .before .before .before .before .before .before .args in
     let r = call .load .result in
-    loaded (a .table .now) (a .k) (call .load .last .1 .1 .1 .0) r (call .load .ensures) (not-false r (else .if1 .left))
+    loaded (a .lim) (a .table .now) (a .k) (call .load .last .1 .1 .1 .0) r (call .load .ensures) (not-false r (else .if1 .left))
 
-mul-t19 : tie.Need-mul-t19
-mul-t19 c = search needs
+mul-t20 : tie.Need-mul-t20
+mul-t20 c = search needs
 
-slice-read-t21 : tie.Need-slice-read-t21
-slice-read-t21 c = search needs
+slice-read-t22 : tie.Need-slice-read-t22
+slice-read-t22 c = search needs
 
 same-length-2 : tie.Need-same-length-2
 same-length-2 c = search needs
@@ -50,8 +50,8 @@ returns-2 c =
     let a = call .before .before .before .before .before .before .args in
     let r = call .load .result in
     let ix = call .load .last .1 .1 .1 .0 in
-    tell-loaded (a .table .now) (a .k) (a .cell) (a .sentence .now) (a .out .now) ix (run .run-loaded .last .1 .1 .1 .1 .0) (run .run-loaded .result)
-    (loaded (a .table .now) (a .k) ix r (call .load .ensures) (not-false r (else .if1 .left)))
+    tell-loaded (a .lim) (a .table .now) (a .k) (a .cell) (a .sentence .now) (a .out .now) ix (run .run-loaded .last .1 .1 .1 .1 .0) (run .run-loaded .result)
+    (loaded (a .lim) (a .table .now) (a .k) ix r (call .load .ensures) (not-false r (else .if1 .left)))
     (run .run-loaded .ensures)
 
 pub tell-within-spec : {M : Type 1} → statement M
@@ -62,8 +62,8 @@ tell-within-spec =
     same-length
     returns
     run-loaded-requires
-    mul-t19
-    slice-read-t21
+    mul-t20
+    slice-read-t22
     same-length-2
     same-length-3
     returns-2)

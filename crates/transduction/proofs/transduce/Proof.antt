@@ -4,6 +4,8 @@ use native.Mathlib.Omega.{arith}
 use borrow.Author.Needs.{needs}
 use mathlib.Core.Path.{refl}
 use lib.ListN.{length}
+use Rattle.limits.specs.declared.Limits.{Limits}
+use Rattle.transduction.specs.Parts.{Runnable}
 use Rattle.transduction.proofs.Turn.{Going, going-start, turn-inside, turn-cell, turn-short, turn-place, turn-room, turn-count, turn-next, end-inside, end-base, end-place, end-count, end-made}
 use Rattle.transduction.proofs.transduce.Statement.{statement}
 use Rattle.transduction.proofs.transduce.Tie as tie
@@ -17,7 +19,8 @@ use Rattle.transduction.proofs.put.Reads as put-reads
 use Rattle.transduction.proofs.put_word.Reads as put-word-reads
 
 abbrev Inv-loop : tie.InvT-loop
-Inv-loop table index sentence out₀ base₀ at₀ i₀ out base at i = Going table index sentence out₀ out i at base
+Inv-loop table index sentence out₀ base₀ at₀ i₀ out base at i =
+    (lim : Limits) → Runnable lim table index sentence out₀ → Going lim table index sentence out₀ out i at base
 
 abbrev μ-loop : tie.MeasureT-loop
 μ-loop table index sentence out₀ base₀ at₀ i₀ out base at i = length sentence - i
@@ -26,7 +29,7 @@ loop-holds : tie.Need-loop-holds Inv-loop μ-loop
 loop-holds c =
     let start = c .before .before .before .before in
     let a = start .args in
-    going-start (a .table .now) (a .index .now) (a .sentence .now) (a .out .now) (start .pre)
+    λ lim p. going-start (a .table .now) (a .index .now) (a .sentence .now) (a .out .now) p
 
 shared-slice-read-entry-at : tie.Need-shared-slice-read-entry-at Inv-loop μ-loop
 shared-slice-read-entry-at c = search needs
@@ -34,15 +37,19 @@ shared-slice-read-entry-at c = search needs
 entry-at-requires : tie.Need-entry-at-requires Inv-loop μ-loop
 entry-at-requires c κs =
     let b = c .before .before in
-    turn-inside (b .loop .inv) (omega arith)
+    let start = b .before .before .before .before .before in
+    let g = b .loop .inv (start .args .lim) (start .pre) in
+    turn-inside g (omega arith)
 
 put-requires : tie.Need-put-requires Inv-loop μ-loop
 put-requires c κs =
     let b = c .before .before .before .before in
+    let start = b .before .before .before .before .before in
+    let g = b .loop .inv (start .args .lim) (start .pre) in
     let e = c .before .entry-at in (
-      turn-place (b .loop .inv) (omega arith) (e .result) (e .ensures),
-      turn-room (b .loop .inv) (omega arith) (e .result) (e .ensures),
-      turn-count (b .loop .inv) (omega arith) (e .result) (e .ensures),
+      turn-place g (omega arith) (e .result) (e .ensures),
+      turn-room g (omega arith) (e .result) (e .ensures),
+      turn-count g (omega arith) (e .result) (e .ensures),
     )
 
 base-of-requires : tie.Need-base-of-requires Inv-loop μ-loop
@@ -61,9 +68,11 @@ loop-again c =
     let call = c .before .before .before in
     let e = call .before .before .entry-at in
     let h : b .loop .i < length (a .sentence .now) = omega arith in
+    λ lim p.
+    let g = b .loop .inv lim p in
     let put =
-    call .put .ensures _ _ (turn-cell (b .loop .inv) h (e .result) (e .ensures)) (turn-short (b .loop .inv) h (e .result) (e .ensures)) in
-    turn-next (b .loop .inv) h (e .result) (e .ensures) (call .put .last .1 .1 .0) (call .put .result) put
+    call .put .ensures _ _ (turn-cell g h (e .result) (e .ensures)) (turn-short g h (e .result) (e .ensures)) in
+    turn-next g h (e .result) (e .ensures) (call .put .last .1 .1 .0) (call .put .result) put
     (c .base-of .result)
     (c .base-of .ensures)
     (search needs)
@@ -71,17 +80,23 @@ loop-again c =
 sub-e : tie.Need-sub-e Inv-loop μ-loop
 sub-e c =
     let b = c .before in
-    omega (arith, end-base (b .loop .inv) (omega arith))
+    let start = b .before .before .before .before .before in
+    let g = b .loop .inv (start .args .lim) (start .pre) in
+    omega (arith, end-base g (omega arith))
 
 mul-e : tie.Need-mul-e Inv-loop μ-loop
 mul-e c =
     let b = c .before in
-    omega (arith, end-inside (b .loop .inv) (omega arith))
+    let start = b .before .before .before .before .before in
+    let g = b .loop .inv (start .args .lim) (start .pre) in
+    omega (arith, end-inside g (omega arith))
 
 shared-slice-read-e : tie.Need-shared-slice-read-e Inv-loop μ-loop
 shared-slice-read-e c =
     let b = c .before .before in
-    omega (arith, end-inside (b .loop .inv) (omega arith))
+    let start = b .before .before .before .before .before in
+    let g = b .loop .inv (start .args .lim) (start .pre) in
+    omega (arith, end-inside g (omega arith))
 
 place-of-requires : tie.Need-place-of-requires Inv-loop μ-loop
 place-of-requires c κs = search needs
@@ -92,20 +107,26 @@ count-of-requires c κs = search needs
 put-word-requires : tie.Need-put-word-requires Inv-loop μ-loop
 put-word-requires c κs =
     let b = c .before .before .before .before .before in
-    let a = b .before .before .before .before .before .args in (
-      omega (arith, end-place (b .loop .inv) (omega arith) _ refl),
-      omega (arith, end-count (b .loop .inv) (omega arith) _ refl),
+    let start = b .before .before .before .before .before in
+    let g = b .loop .inv (start .args .lim) (start .pre) in (
+      omega (arith, end-place g (omega arith) _ refl),
+      omega (arith, end-count g (omega arith) _ refl),
     )
 
 same-length : tie.Need-same-length Inv-loop μ-loop
-same-length c = omega (arith, c .before .before .before .before .before .before .before .before .loop .inv .long)
+same-length c =
+    let b = c .before .before .before .before .before .before .before .before in
+    let start = b .before .before .before .before .before in
+    omega (arith, b .loop .inv (start .args .lim) (start .pre) .long)
 
 returns : tie.Need-returns Inv-loop μ-loop
 returns c =
     let b = c .before .before .before .before .before .before .before .before in
+    let start = b .before .before .before .before .before in
+    let g = b .loop .inv (start .args .lim) (start .pre) in
     let call = c .before .before in
     let count = call .before .before in
-    end-made (b .loop .inv) (omega arith) _ refl (count .before .place-of .result) (count .count-of .result) (call .put-word .last .1 .1 .1 .0) (search needs) (search needs) (call .put-word .ensures)
+    end-made g (omega arith) _ refl (count .before .place-of .result) (count .count-of .result) (call .put-word .last .1 .1 .1 .0) (search needs) (search needs) (call .put-word .ensures)
 
 pub transduce-spec : {M : Type 1} → statement M
 transduce-spec =

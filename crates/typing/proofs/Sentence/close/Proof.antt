@@ -30,8 +30,8 @@ returns c =
     let call = c .before .before .before .before .before .before in
     let a = call .before .before .before .before .args in
     let out = call .put-held .last .1 .1 .0 in
-    subst (λ (y : Typed). Hands (close (a .table .now) (a .self) (length (a .out .now))) (a .out .now) out y) (sym (c .refuse .ensures))
-    (close-refused (a .table .now) (a .self) (a .out .now) out (call .put-held .result) (call .put-held .ensures) (told .0 .0) (told .1))
+    subst (λ (y : Typed). Hands (close (a .lim) (a .table .now) (a .self) (length (a .out .now))) (a .out .now) out y) (sym (c .refuse .ensures))
+    (close-refused (a .lim) (a .table .now) (a .self) (a .out .now) out (call .put-held .result) (call .put-held .ensures) (told .0 .0) (told .1))
 
 enum-told : tie.Need-enum-told
 enum-told c = search needs
@@ -45,7 +45,7 @@ returns-2 c =
     let call = c .before .before .before .before in
     let a = call .before .before .before .before .args in
     let out = call .put-held .last .1 .1 .0 in
-    close-done (a .table .now) (a .self) (a .out .now) out (call .put-held .result) (call .put-held .ensures) (told .0 .0) (told .1)
+    close-done (a .lim) (a .table .now) (a .self) (a .out .now) out (call .put-held .result) (call .put-held .ensures) (told .0 .0) (told .1)
 
 pub close-spec : {M : Type 1} → statement M
 close-spec =

@@ -7,7 +7,7 @@ use Rattle.transduction.specs.Parts.{CellRead}
 use Rattle.transduction.proofs.Runs.{not-found, cell-of}
 use Rattle.typing.specs.Typing.{give, Hands}
 use Rattle.typing.specs.declared.Typed.{Typed}
-use Rattle.typing.proofs.Gives.{give-malformed}
+use Rattle.typing.proofs.Gives.{give-unread}
 use Rattle.typing.proofs.Sentence.give.Statement.{statement}
 use Rattle.typing.proofs.Sentence.give.Tie as tie
 use Rattle.typing.proofs.Sentence.give.Reads as reads
@@ -29,21 +29,6 @@ find-entry-requires c κs = search needs
 enum-known-found : tie.Need-enum-known-found
 enum-known-found c = search needs
 
-enum-told : tie.Need-enum-told
-enum-told c = search needs
-
-refuse-requires : tie.Need-refuse-requires
-refuse-requires c κs = search needs
-
-returns : tie.Need-returns
-returns c =
-    let call = c .before .before .before in
-    let tag = call .before in
-    let a = tag .before .before .before .args in
-    subst (λ (y : Typed). Hands (give (a .table .now) (a .self) (a .tag) (length (a .out .now))) (a .out .now) (a .out .now) y) (sym (c .refuse .ensures))
-    (give-malformed (a .table .now) (a .self) (a .tag) (a .out .now)
-    (not-found (a .table .now) (a .self .state) (1 + tag .wide .result) (call .find-entry .result) (call .find-entry .ensures) (c .before .enum-told .given .1)))
-
 take-requires : tie.Need-take-requires
 take-requires c κs =
     let told = c .before .before .found .given in
@@ -53,14 +38,30 @@ take-requires c κs =
     let k = told .0 .0 in
     let s = told .0 .1 .0 in
     let e = told .0 .1 .1 .0 in
-    subst (λ (n : ℕ). CellRead (a .table .now) (a .self .state) (1 + n) k s e) (tag .wide .ensures .0)
-    (cell-of (a .table .now) (a .self .state) (1 + tag .wide .result) (call .find-entry .result) (call .find-entry .ensures) k s e (told .1))
+    subst (λ (n : ℕ). CellRead (a .lim) (a .table .now) (a .self .state) (1 + n) k s e) (tag .wide .ensures .0)
+    (cell-of (a .lim) (a .table .now) (a .self .state) (1 + tag .wide .result) (call .find-entry .result) (call .find-entry .ensures) k s e (told .1))
+
+enum-known-found-2 : tie.Need-enum-known-found-2
+enum-known-found-2 c = search needs
+
+refuse-requires : tie.Need-refuse-requires
+refuse-requires c κs = search needs
 
 same-length : tie.Need-same-length
 same-length c = search needs
 
+returns : tie.Need-returns
+returns c = search needs
+
 returns-2 : tie.Need-returns-2
-returns-2 c = search needs
+returns-2 c =
+    let told = c .before .before .found2 .given in
+    let call = c .before .before .before .before in
+    let tag = call .before in
+    let a = tag .before .before .before .args in
+    subst (λ (y : Typed). Hands (give (a .lim) (a .table .now) (a .self) (a .tag) (length (a .out .now))) (a .out .now) (a .out .now) y) (sym (c .refuse .ensures))
+    (give-unread (a .lim) (a .table .now) (a .self) (a .tag) (a .out .now) (told .0 .0)
+    (not-found (a .lim) (a .table .now) (a .self .state) (1 + tag .wide .result) (call .find-entry .result) (call .find-entry .ensures) (told .0 .0) (told .1)))
 
 pub give-spec : {M : Type 1} → statement M
 give-spec =
@@ -70,9 +71,9 @@ give-spec =
     add-find-entry
     find-entry-requires
     enum-known-found
-    enum-told
-    refuse-requires
-    returns
     take-requires
+    enum-known-found-2
+    refuse-requires
     same-length
+    returns
     returns-2)

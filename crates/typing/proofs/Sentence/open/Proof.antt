@@ -10,23 +10,25 @@ use Rattle.transduction.proofs.read_table.Reads as read-table-reads
 read-table-requires : tie.Need-read-table-requires
 read-table-requires c κs = search needs
 
-enum-told : tie.Need-enum-told
-enum-told c = search needs
-
-enum-told-2 : tie.Need-enum-told-2
-enum-told-2 c = search needs
+enum-known-got : tie.Need-enum-known-got
+enum-known-got c = search needs
 
 returns : tie.Need-returns
 returns c =
-    let call = c .before .before in
-    let told = c .enum-told2 .given in
-    open-refused (call .before .before .args .table .now) (call .read-table .result) (call .read-table .ensures) (told .0 .0) (told .1)
+    let told = c .before .got .given in
+    let call = c .before .before .before in
+    let a = call .before .before .args in
+    open-refused (a .lim) (a .table .now) (call .read-table .result) (call .read-table .ensures) (told .0 .0) (told .1)
+
+enum-told : tie.Need-enum-told
+enum-told c = search needs
 
 returns-2 : tie.Need-returns-2
 returns-2 c =
-    let call = c .before .before in
     let told = c .enum-told .given in
-    open-done (call .before .before .args .table .now) (call .read-table .result) (call .read-table .ensures) (told .0 .0) (told .0 .1 .0) (told .1)
+    let call = c .before .before in
+    let a = call .before .before .args in
+    open-done (a .lim) (a .table .now) (call .read-table .result) (call .read-table .ensures) (told .0 .0) (told .0 .1 .0) (told .1)
 
 pub open-spec : {M : Type 1} → statement M
-open-spec = tie.close (tie.spec read-table-requires enum-told enum-told-2 returns returns-2)
+open-spec = tie.close (tie.spec read-table-requires enum-known-got returns enum-told returns-2)

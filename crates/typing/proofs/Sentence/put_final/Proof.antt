@@ -26,7 +26,7 @@ returns c =
     let start = call .before .before .before in
     let a = start .args in
     let stop = admission-refused (standing (a .self) (a .s)) (call .stand .result) (told .stands .given .0 .0) (told .stands .given .1) (call .stand .ensures) in
-    held-refused (a .table .now) (a .self) (a .out .now) (a .k) (a .s) (a .e) (start .pre) (told .stands .given .0 .0) stop
+    held-refused (a .lim) (a .table .now) (a .self) (a .out .now) (a .k) (a .s) (a .e) (start .pre) (told .stands .given .0 .0) stop
 
 enum-told : tie.Need-enum-told
 enum-told c = search needs
@@ -41,7 +41,7 @@ returns-2 c =
     let start = call .before .before .before in
     let a = start .args in
     let go = admission-admitted (standing (a .self) (a .s)) (call .stand .result) (told .enum-told .given .1) (call .stand .ensures) in
-    held-short (a .table .now) (a .self) (a .out .now) (a .k) (a .s) (a .e) (start .pre) go (omega arith)
+    held-short (a .lim) (a .table .now) (a .self) (a .out .now) (a .k) (a .s) (a .e) (start .pre) go (omega arith)
 
 place-of-requires : tie.Need-place-of-requires
 place-of-requires c κs = search needs
@@ -53,7 +53,7 @@ put-word-requires c κs =
     let start = call .before .before .before in
     let a = start .args in
     let go = admission-admitted (standing (a .self) (a .s)) (call .stand .result) (told .enum-told .given .1) (call .stand .ensures) in
-    (omega (arith, held-place (a .table .now) (a .self) (a .out .now) (a .k) (a .s) (a .e) (start .pre) go), omega arith)
+    (omega (arith, held-place (a .lim) (a .table .now) (a .self) (a .out .now) (a .k) (a .s) (a .e) (start .pre) go), omega arith)
 
 same-length : tie.Need-same-length
 same-length c = search needs
@@ -68,7 +68,7 @@ returns-3 c =
     let start = call .before .before .before in
     let a = start .args in
     let go = admission-admitted (standing (a .self) (a .s)) (call .stand .result) (told .enum-told .given .1) (call .stand .ensures) in
-    held-done (a .table .now) (a .self) (a .out .now) (a .k) (a .s) (a .e) (start .pre) go (omega arith) (put .put-word .last .1 .1 .1 .0) (place .place-of .result) (count .count-of .result) (search needs) (search needs) (put .put-word .ensures)
+    held-done (a .lim) (a .table .now) (a .self) (a .out .now) (a .k) (a .s) (a .e) (start .pre) go (omega arith) (put .put-word .last .1 .1 .1 .0) (place .place-of .result) (count .count-of .result) (search needs) (search needs) (put .put-word .ensures)
 
 pub put-final-spec : {M : Type 1} → statement M
 put-final-spec =

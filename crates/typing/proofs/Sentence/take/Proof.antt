@@ -6,7 +6,7 @@ use lib.ListN.{length}
 use Rattle.typing.specs.Typing.{admits, give, Hands}
 use Rattle.typing.specs.declared.Typed.{Typed}
 use Rattle.typing.proofs.Stands.{admission-refused, admission-admitted}
-use Rattle.typing.proofs.Gives.{is-taken, take-refused, take-short, take-place, take-base, take-done}
+use Rattle.typing.proofs.Gives.{cell-tags, is-taken, take-refused, take-short, take-place, take-base, take-done}
 use Rattle.typing.proofs.Sentence.take.Statement.{statement}
 use Rattle.typing.proofs.Sentence.take.Tie as tie
 use Rattle.typing.proofs.Sentence.take.Reads as reads
@@ -36,8 +36,8 @@ returns c =
     let stop =
     admission-refused (admits (a .self) (a .k) (a .s) (a .tag)) (call .admit .result) (told .admission .given .0 .0) (told .admission .given .1) (call .admit .ensures)
     in
-    subst (λ (y : Typed). Hands (give (a .table .now) (a .self) (a .tag) (length (a .out .now))) (a .out .now) (a .out .now) y) (sym (c .refuse .ensures))
-    (take-refused (a .table .now) (a .self) (a .tag) (a .out .now) (a .k) (a .s) (a .e) (start .pre) (told .admission .given .0 .0) stop)
+    subst (λ (y : Typed). Hands (give (a .lim) (a .table .now) (a .self) (a .tag) (length (a .out .now))) (a .out .now) (a .out .now) y) (sym (c .refuse .ensures))
+    (take-refused (a .lim) (a .table .now) (a .self) (a .tag) (a .out .now) (a .k) (a .s) (a .e) (start .pre) (told .admission .given .0 .0) stop)
 
 enum-told : tie.Need-enum-told
 enum-told c = search needs
@@ -49,7 +49,7 @@ next-state-requires c κs =
     let start = call .before .before .before in
     let a = start .args in
     let go = admission-admitted (admits (a .self) (a .k) (a .s) (a .tag)) (call .admit .result) (told .enum-told .given .1) (call .admit .ensures) in
-    (take-base (a .table .now) (a .self) (a .tag) (a .out .now) (a .k) (a .s) (a .e) (start .pre) go, start .pre .valid .tags-most)
+    (take-base (a .lim) (a .table .now) (a .self) (a .tag) (a .out .now) (a .k) (a .s) (a .e) (start .pre) go, cell-tags (a .lim) (start .pre))
 
 advance-requires : tie.Need-advance-requires
 advance-requires c κs =
@@ -58,7 +58,7 @@ advance-requires c κs =
     let start = call .before .before .before in
     let a = start .args in
     let go = admission-admitted (admits (a .self) (a .k) (a .s) (a .tag)) (call .admit .result) (told .enum-told .given .1) (call .admit .ensures) in
-    is-taken (a .table .now) (a .self) (a .tag) (a .out .now) (a .k) (a .s) (a .e) (start .pre) go .short
+    is-taken (a .lim) (a .table .now) (a .self) (a .tag) (a .out .now) (a .k) (a .s) (a .e) (start .pre) go .short
 
 count-of-requires : tie.Need-count-of-requires
 count-of-requires c κs = search needs
@@ -73,8 +73,8 @@ returns-2 c =
     let start = call .before .before .before in
     let a = start .args in
     let go = admission-admitted (admits (a .self) (a .k) (a .s) (a .tag)) (call .admit .result) (told .enum-told .given .1) (call .admit .ensures) in
-    subst (λ (y : Typed). Hands (give (a .table .now) (a .self) (a .tag) (length (a .out .now))) (a .out .now) (a .out .now) y) (sym (c .refuse2 .ensures))
-    (take-short (a .table .now) (a .self) (a .tag) (a .out .now) (a .k) (a .s) (a .e) (start .pre) go (omega arith))
+    subst (λ (y : Typed). Hands (give (a .lim) (a .table .now) (a .self) (a .tag) (length (a .out .now))) (a .out .now) (a .out .now) y) (sym (c .refuse2 .ensures))
+    (take-short (a .lim) (a .table .now) (a .self) (a .tag) (a .out .now) (a .k) (a .s) (a .e) (start .pre) go (omega arith))
 
 put-step-requires : tie.Need-put-step-requires
 put-step-requires c κs =
@@ -83,7 +83,7 @@ put-step-requires c κs =
     let start = call .before .before .before in
     let a = start .args in
     let go = admission-admitted (admits (a .self) (a .k) (a .s) (a .tag)) (call .admit .result) (told .enum-told .given .1) (call .admit .ensures) in
-    (take-place (a .table .now) (a .self) (a .tag) (a .out .now) (a .k) (a .s) (a .e) (start .pre) go, omega arith)
+    (take-place (a .lim) (a .table .now) (a .self) (a .tag) (a .out .now) (a .k) (a .s) (a .e) (start .pre) go, omega arith)
 
 same-length : tie.Need-same-length
 same-length c = search needs
@@ -99,7 +99,7 @@ returns-3 c =
     let start = call .before .before .before in
     let a = start .args in
     let go = admission-admitted (admits (a .self) (a .k) (a .s) (a .tag)) (call .admit .result) (told .enum-told .given .1) (call .admit .ensures) in
-    take-done (a .table .now) (a .self) (a .tag) (a .out .now) (a .k) (a .s) (a .e) (start .pre) go (omega arith) (put .put-step .last .1 .1 .0) (next .next-state .result) (count .count-of .result) (after .advance .result) (search needs) (next .next-state .ensures) (after .advance .ensures) (put .put-step .ensures)
+    take-done (a .lim) (a .table .now) (a .self) (a .tag) (a .out .now) (a .k) (a .s) (a .e) (start .pre) go (omega arith) (put .put-step .last .1 .1 .0) (next .next-state .result) (count .count-of .result) (after .advance .result) (search needs) (next .next-state .ensures) (after .advance .ensures) (put .put-step .ensures)
 
 pub take-spec : {M : Type 1} → statement M
 take-spec =

@@ -1,4 +1,4 @@
--- `tagger::run_into` meets its contract.
+-- `tagger::run_within` meets its contract.
 use borrow.Author.Needs.{needs}
 use Prim.Native.Nat.{ℕ}
 use mathlib.Core.Path.{sym, subst, ap, _∙_}
@@ -17,15 +17,15 @@ use Rattle.running.specs.Rules.{numbers}
 use Rattle.running.proofs.Run.{numbers-kept}
 use Rattle.tagging.specs.Reading.{reading}
 use Rattle.tagger.proofs.Run.{book-refused, book-runs, few-tags, applicable}
-use Rattle.tagger.proofs.run_into.Statement.{statement}
-use Rattle.tagger.proofs.run_into.Tie as tie
-use Rattle.tagger.proofs.run_into.Reads as reads
-use Rattle.tagger.proofs.run_into.Lts as lts
+use Rattle.tagger.proofs.run_within.Statement.{statement}
+use Rattle.tagger.proofs.run_within.Tie as tie
+use Rattle.tagger.proofs.run_within.Reads as reads
+use Rattle.tagger.proofs.run_within.Lts as lts
 use Rattle.reader.proofs.read_into.Reads as read-into-reads
 use Rattle.running.proofs.run_pieces.Reads as run-pieces-reads
 
 read-into-requires : tie.Need-read-into-requires
-read-into-requires c κs = fresh-shaped
+read-into-requires c κs = (fresh-shaped, c .before .before .before .before .before .before .before .before .pre .1)
 
 slice-aggregate-read-into : tie.Need-slice-aggregate-read-into
 slice-aggregate-read-into c = sym (ap length (take-length (c .before .before .before .before .before .args .book .now)))
@@ -41,22 +41,23 @@ run-pieces-requires c κs =
     let st = c .before .before .before .before .before .before .before .before .before .before .before .before .before .before .before .before .before in
     let r = c .before .before .before .before .before .before .before .before .read-into in
     let a = holding (r .last .1 .0) (r .last .1 .1 .0) (r .last .1 .1 .1 .0) in
-    let w : Whole (st .args .book .now) a (r .result) = subst (λ (x : List ℕ). Whole x a (r .result)) (take-length (st .args .book .now)) (r .ensures) in
+    let w : Whole (st .args .lim) (st .args .book .now) a (r .result) = subst (λ (x : List ℕ). Whole (st .args .lim) x a (r .result)) (take-length (st .args .book .now)) (r .ensures) in
     let book = c .before .before .before .before .before .before .got2 .given in (
-      applicable (st .args .book .now) a (r .result) w (book .0 .0) (book .0 .1 .0) (book .1),
-      (few-tags (st .args .book .now) a (r .result) w (book .0 .0) (book .0 .1 .0) (book .1), st .pre),
+      applicable (st .args .book .now) a (r .result) w (st .pre .1) (book .0 .0) (book .0 .1 .0) (book .1),
+      (few-tags (st .args .book .now) a (r .result) w (st .pre .1) (book .0 .0) (book .0 .1 .0) (book .1), st .pre .0),
     )
 
 returns : tie.Need-returns
 returns c =
-    let s = c .before .before .before .before .before .before .before .before .before .before .before .before .args in
+    let st = c .before .before .before .before .before .before .before .before .before .before .before .before in
+    let s = st .args in
     let r = c .before .before .before .read-into in
     let a = holding (r .last .1 .0) (r .last .1 .1 .0) (r .last .1 .1 .1 .0) in
-    let w : Whole (s .book .now) a (r .result) = subst (λ (x : List ℕ). Whole x a (r .result)) (take-length (s .book .now)) (r .ensures) in (
-      ran-refused (reading behavior (s .book .now) (s .end) (s .sentence .now) (s .room)) (s .sentence .now) (s .out .now) (c .before .got .given .0 .0)
-          (book-refused (s .book .now) a (r .result) w behavior (s .end) (s .sentence .now) (s .room) _ (c .before .got .given .1)),
-      λ h. numbers-kept (reading numbers (s .book .now) (s .end) (s .sentence .now) (s .room)) (c .before .got .given .0 .0) (s .v .now)
-          (book-refused (s .book .now) a (r .result) w numbers (s .end) (s .sentence .now) (s .room) _ (c .before .got .given .1)),
+    let w : Whole (s .lim) (s .book .now) a (r .result) = subst (λ (x : List ℕ). Whole (s .lim) x a (r .result)) (take-length (s .book .now)) (r .ensures) in (
+      ran-refused (reading (s .lim) behavior (s .book .now) (s .end) (s .sentence .now) (s .room)) (s .sentence .now) (s .out .now) (c .before .got .given .0 .0)
+          (book-refused (s .book .now) a (r .result) w (st .pre .1) behavior (s .end) (s .sentence .now) (s .room) _ (c .before .got .given .1)),
+      λ h. numbers-kept (reading (s .lim) numbers (s .book .now) (s .end) (s .sentence .now) (s .room)) (c .before .got .given .0 .0) (s .v .now)
+          (book-refused (s .book .now) a (r .result) w (st .pre .1) numbers (s .end) (s .sentence .now) (s .room) _ (c .before .got .given .1)),
     )
 
 same-length : tie.Need-same-length
@@ -67,20 +68,21 @@ same-length-2 c = search needs
 
 returns-2 : tie.Need-returns-2
 returns-2 c =
-    let s = c .before .before .before .before .before .before .before .before .before .before .before .before .before .before .before .before .before .before .before .before .before .before .args in
+    let st = c .before .before .before .before .before .before .before .before .before .before .before .before .before .before .before .before .before .before .before .before .before .before in
+    let s = st .args in
     let r = c .before .before .before .before .before .before .before .before .before .before .before .before .before .read-into in
     let a = holding (r .last .1 .0) (r .last .1 .1 .0) (r .last .1 .1 .1 .0) in
-    let w : Whole (s .book .now) a (r .result) = subst (λ (x : List ℕ). Whole x a (r .result)) (take-length (s .book .now)) (r .ensures) in
+    let w : Whole (s .lim) (s .book .now) a (r .result) = subst (λ (x : List ℕ). Whole (s .lim) x a (r .result)) (take-length (s .book .now)) (r .ensures) in
     let book = c .before .before .before .before .before .before .before .before .before .before .before .got2 .given in
     let u = c .before .before .before .before .run-pieces in (
       subst (λ (o : Outcome (List ℕ)). Ran o (s .sentence .now) (s .out .now) (u .last .1 .0) (u .result))
-          (book-runs (s .book .now) a (r .result) w behavior (s .end) (s .sentence .now) (s .room) (book .0 .0) (book .0 .1 .0) (book .1)) (u .ensures .0),
+          (book-runs (s .book .now) a (r .result) w (st .pre .1) behavior (s .end) (s .sentence .now) (s .room) (book .0 .0) (book .0 .1 .0) (book .1)) (u .ensures .0),
       λ h. u .ensures .1 h
-          ∙ ap (λ (o : Outcome (List ℕ)). written o (s .v .now)) (book-runs (s .book .now) a (r .result) w numbers (s .end) (s .sentence .now) (s .room) (book .0 .0) (book .0 .1 .0) (book .1)),
+          ∙ ap (λ (o : Outcome (List ℕ)). written o (s .v .now)) (book-runs (s .book .now) a (r .result) w (st .pre .1) numbers (s .end) (s .sentence .now) (s .room) (book .0 .0) (book .0 .1 .0) (book .1)),
     )
 
-pub run-into-spec : {M : Type 1} → statement M
-run-into-spec =
+pub run-within-spec : {M : Type 1} → statement M
+run-within-spec =
     tie.close
     (tie.spec
     slice-aggregate-read-into

@@ -1,0 +1,3 @@
+-- Laws of limits.
+pub mod Range
+pub mod Work
