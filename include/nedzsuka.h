@@ -31,10 +31,10 @@
    - The other slices are only read, the work slice of compile excepted.
    - It allocates nothing and keeps nothing from one call to the next: several threads may call at once, each with output and work
      slices of its own, and typed sentences of its own. One table, loaded or not, serves several threads, since running it only reads it.
-   - Of the stack nedzsuka_run_table, nedzsuka_read_table, nedzsuka_load_table, nedzsuka_open, nedzsuka_give, nedzsuka_look and
-     nedzsuka_close take less than 2,200 bytes if S * (K + 1) is at most 192, some 10,600 if it is at most 1,024, some 35,200 if it is at
-     most 4,096, else some 102,700; nedzsuka_run_loaded less than 1,000 for a sentence of at most 256 tags, some 2,900 for one of at most
-     2,048, else some 66,400; the other calls less than 1,400.
+   - Of the stack nedzsuka_run_table, nedzsuka_run_table_within, nedzsuka_read_table, nedzsuka_load_table, nedzsuka_open, nedzsuka_give,
+     nedzsuka_look and nedzsuka_close take less than 2,200 bytes if S * (K + 1) is at most 192, some 10,600 if it is at most 1,024, some
+     35,200 if it is at most 4,096, else some 102,700; nedzsuka_run_loaded less than 1,000 for a sentence of at most 256 tags, some 2,900
+     for one of at most 2,048, else some 66,400; the other calls less than 1,600.
 
    What is asked of the caller
    - A pointer reaches as many entries as the length beside it says. It may be null only where that length is 0.

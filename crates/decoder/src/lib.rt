@@ -51,7 +51,7 @@ pub fn load(table: &[u8], k: usize, s: usize, index: &mut [u64], lim: Limits) ->
     load_end(table, end, k, s, index, lim)
 }
 
-// The head of limits in their ranges. No valid table has as many bytes as are refused here.
+// The head, with limits in their ranges. No valid table has as many bytes as are refused here.
 fn read_ranged(table: &[u8], lim: Limits) -> TableAnswer
     requires { ⌜ InRange lim ⌝ }
     ensures { λ r. ⌜ HeadRead lim (now (table .entry)) r ⌝ }
