@@ -648,7 +648,7 @@ static void compare_drawn(void)
     compare_tried_books(2500);
     tried_out += compare_ending_tried(600);
     compare_ending_books(6000);
-    compare_limited_books(12000);
+    compare_limited_books(9000);
     compare_limited_tables(30000);
     compare_rules_books(9000);
     compare_bytes_of_books(30000);

@@ -7,6 +7,9 @@
 #include "nedzsuka.h"
 #include "slices.h"
 
+/* Of drawn books: work and output slices are filled anew for each call. */
+enum { MOST_CEILING = 48, MOST_BYTES = 60000 };
+
 static const struct limits standard = {6, 16, 48}, widest = {8, 16, 48};
 
 static uint8_t sentence[LONGEST_TRIED_SENTENCE], result[LONGEST_TRIED_SENTENCE], table[TABLE_ROOM], bytes[TABLE_ROOM];
@@ -264,11 +267,11 @@ static void compare_both_runs(struct limits limits, const uint8_t *book, size_t 
 static void compare_other_limits(const struct made_book *book, const uint8_t *written, size_t length, unsigned end, uint64_t answer)
 {
     struct limits other = some_limits();
-    uint64_t again = compare_compile_within(other, written, length, end, 200, work_for(other, 200, book), TABLE_ROOM);
+    uint64_t again = compare_compile_within(other, written, length, end, MOST_CEILING, work_for(other, MOST_CEILING, book), MOST_BYTES);
 
     if (again % 256 == 0 && (again != answer || memcmp(table, last_out, (size_t)(answer / 256)) != 0))
         fail("another table with other limits");
-    again = compare_compile_ending(written, length, end, 200, work_entries(200, book->tags, book->rules), LONGEST_TABLE);
+    again = compare_compile_ending(written, length, end, MOST_CEILING, work_entries(MOST_CEILING, book->tags, book->rules), MOST_BYTES);
     if (again % 256 == 0 && (again != answer || memcmp(table, last_out, (size_t)(answer / 256)) != 0))
         fail("another table without limits");
 }
@@ -279,12 +282,12 @@ static void compare_limited_book(void)
     struct made_book book = book_for(limits);
     unsigned end = book.tags > 2 && one_in(2) ? some_end(&book) : NO_END;
     uint8_t written[LONGEST_BOOK + DAMAGED_ROOM];
-    size_t length = write_book(&book, written), ceiling = 1 + random_below(40), needed = work_for(limits, 200, &book);
-    uint64_t answer = compare_compile_within(limits, written, length, end, 200, needed, TABLE_ROOM);
+    size_t length = write_book(&book, written), ceiling = 1 + random_below(40), needed = work_for(limits, MOST_CEILING, &book);
+    uint64_t answer = compare_compile_within(limits, written, length, end, MOST_CEILING, needed, MOST_BYTES);
 
     compare_compile_within(limits, written, length, end, ceiling, work_for(limits, ceiling, &book) - one_in(4), one_in(4) ? 40 : 4096);
     if (answer % 256 == 0) {
-        compare_compile_within(limits, written, length, end, 200, needed, (size_t)(answer / 256));
+        compare_compile_within(limits, written, length, end, MOST_CEILING, needed, (size_t)(answer / 256));
         memcpy(table, last_out, (size_t)(answer / 256));
         compare_other_limits(&book, written, length, end, answer);
         for (int i = 0; i < 4; i++) {
