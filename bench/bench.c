@@ -105,7 +105,8 @@ static size_t narrow_entries(const struct figures *f)
 {
     uint64_t size = nedzsuka_value(nedzsuka_read_book(f->book, f->book_len));
 
-    return nedzsuka_work_entries_within(longest_pattern(f), size % 256, size / 256, f->ceiling, size / 256, size % 256);
+    return nedzsuka_work_entries_within(longest_pattern(f), size % 256, size / 256, f->ceiling, size / 256, size % 256,
+                                        nedzsuka_has_set(f->book, f->book_len));
 }
 
 static uint64_t compile_narrow(int which)
@@ -264,7 +265,7 @@ static void measure_rules(struct figures *f)
 static void measure_fresh(struct figures *f)
 {
     uint64_t size = nedzsuka_value(nedzsuka_read_book(f->book, f->book_len));
-    size_t entries = nedzsuka_work_entries(f->ceiling, size / 256, size % 256);
+    size_t entries = nedzsuka_work_entries(f->ceiling, size / 256, size % 256, nedzsuka_has_set(f->book, f->book_len));
     uint16_t *fresh = mmap(NULL, entries * sizeof *fresh, PROT_READ | PROT_WRITE, MAP_PRIVATE | MAP_ANONYMOUS, -1, 0);
     double *best[] = {&f->fresh, &f->again};
 
@@ -438,7 +439,7 @@ static void print_narrow(const struct figures *figures, int books)
     for (int b = 0; b < books; b++) {
         uint64_t size = nedzsuka_value(nedzsuka_read_book(figures[b].book, figures[b].book_len));
         printf("%-42s %6d %13zu %13zu %13.2f %13.2f\n", figures[b].name, figures[b].states,
-               nedzsuka_work_entries(figures[b].ceiling, size / 256, size % 256), narrow_entries(&figures[b]),
+               nedzsuka_work_entries(figures[b].ceiling, size / 256, size % 256, nedzsuka_has_set(figures[b].book, figures[b].book_len)), narrow_entries(&figures[b]),
                figures[b].beside[0][LIBRARY] * 1e6, figures[b].narrow[LIBRARY] * 1e6);
     }
 }

@@ -863,3 +863,71 @@ for limits in '5 1 2' '5 16 48' '6 16 48' '7 3 9' '8 1 2' '8 16 48'; do
     within 'ababb to abbbb' "$limits" 6 "$ababb" "states 6, bytes 87, $agree"
 done
 within 'ababb to abbbb' '4 16 48' 6 "$ababb" 'refused 3'
+
+# ---- Sets ----
+
+# Any of the nouns 0 and 1 before the verb 2, which becomes 3, once and everywhere: 23 with the bits of 0 and 1.
+set_01='23 00 00 00 00 00 03'
+noun="20 04 21 01 03 $set_01 22 02 00"
+nouns="20 04 24 01 03 $set_01 22 02 00"
+# Any tag and 0 behind it, which becomes 1.
+any="20 02 21 01 01 $set_01 22 00 00"
+# {0, 1} {0, 2} 0, and the 0 becomes 1: after 0 0 two matches are alive, after 1 2 one.
+several="20 03 21 02 01 $set_01 23 00 00 00 00 00 05 22 00 00"
+# 3 {0, 1, 2, 3} {0, 2, 3} {0, 2, 3} {0, 1, 2, 3} 1, and the 1 becomes 2: all 32 sets of matched lengths are reached.
+set_0123='23 00 00 00 00 00 0f' set_023='23 00 00 00 00 00 0d'
+all_alive="20 04 21 05 02 22 03 $set_0123 $set_023 $set_023 $set_0123 22 01 00"
+
+# made NAME BOOK SENTENCE RESULT: by the book, with an output slice of six bytes.
+made() { call "$1" "run_book 6 $2 / $3" "$4"; }
+made 'a noun before a verb' "$noun" '02 00 02 01 02' '1 changed, output 2 0 3 1 2 7'
+made 'the other noun' "$noun" '02 03 02 01 02' '1 changed, output 2 3 2 1 3 7'
+made 'no noun before a verb' "$noun" '02 03 02 02 01' '0 changed, output 2 3 2 2 1 7'
+made 'a noun before each verb' "$nouns" '00 02 01 02 02' '2 changed, output 0 3 1 3 2 7'
+made 'any tag and 0' "$any" '00 00 00' '1 changed, output 0 1 0 7 7 7'
+made 'any tag and 0, behind 1' "$any" '01 01 00 00' '1 changed, output 1 1 1 0 7 7'
+made 'any tag and 0, no tag in front' "$any" '00' '0 changed, output 0 7 7 7 7 7'
+made 'two matches alive' "$several" '00 00 02 00' '1 changed, output 0 0 2 1 7 7'
+made 'one match alive' "$several" '01 02 02 00' '0 changed, output 1 2 2 0 7 7'
+made 'the first of two matches' "$several" '00 00 00 00' '1 changed, output 0 0 1 0 7 7'
+
+# with_set NAME CEILING STATES BYTES BOOK: as many states as there are, and not with one less.
+with_set() {
+    call "$1, compiled" "compile $2 1081344 65536 $5" "states $3, bytes $4, $agree"
+    call "$1, one state less" "compile $(($3 - 1)) 1081344 65536 $5" 'refused 10 at rule 1'
+}
+with_set 'a noun before a verb' 3 3 71 "$noun"
+with_set 'a noun before each verb' 2 2 49 "$nouns"
+with_set 'any tag and 0' 3 3 41 "$any"
+call 'all sets of lengths, compiled' "compile 33 1081344 65536 $all_alive" "states 33, bytes 731, $agree"
+call 'all sets of lengths, one state less' "compile 32 1081344 65536 $all_alive" 'refused 10 at rule 1'
+
+# The work slice: 68 × 3 × 5 × 13 entries, and with L 2 as with no set, 2 × (2 + 2) × 3 × 5 × 9.
+call 'a set, exactly what is needed' "slices 3 13260 71 $noun" 'states 3, bytes 71; 13260 entries and 71 bytes other than before'
+call 'a set, one entry short' "slices 3 13259 71 $noun" 'refused 9; 0 entries and 0 bytes other than before'
+call 'a set, too low a ceiling' "slices 2 8840 71 $noun" 'refused 10 at rule 1; 8840 entries and 0 bytes other than before'
+call 'a set, one byte short' "slices 3 13260 70 $noun" 'refused 11; 13260 entries and 0 bytes other than before'
+call 'a set, L 2' "within 2 1 4 slices 3 1080 71 $noun" 'states 3, bytes 71; 1080 entries and 71 bytes other than before'
+call 'a set, L 1' "within 1 1 4 slices 3 9999 71 $noun" 'refused 3; 0 entries and 0 bytes other than before'
+
+# Refusals with their bytes
+book_read 'a noun before a verb' "$noun" 'tags 4, rules 1'
+book_read 'a set of one tag' '20 03 21 01 00 23 00 00 00 00 00 04 22 02 00' 'refused 18 at byte 11'
+book_read 'a set of no tag' '20 03 21 01 00 23 00 00 00 00 00 00 22 02 00' 'refused 18 at byte 11'
+book_read 'a set with tag K' '20 03 21 01 00 23 00 00 00 00 00 0b 22 02 00' 'refused 4 at byte 11'
+book_read 'a set of tag K alone' '20 03 21 01 00 23 00 00 00 00 00 08 22 02 00' 'refused 4 at byte 11'
+book_read 'a set of high tags' '20 03 21 01 00 23 03 00 00 00 00 00 22 02 00' 'refused 4 at byte 11'
+book_read 'a set of the highest tags' '20 30 21 01 00 23 c0 00 00 00 00 00 22 02 00' 'tags 48, rules 1'
+book_read 'a set at the place' "20 03 21 00 02 $set_01 22 02 00" 'refused 19 at byte 14'
+book_read 'a set behind the place' "20 03 21 00 02 22 01 $set_01 00" 'refused 19 at byte 14'
+book_read 'a set behind the place, the same tag' "20 03 21 00 01 22 01 $set_01 24" 'refused 19 at byte 14'
+book_read 'a set and a place outside the pattern' "20 03 21 02 00 22 01 $set_01 00" 'refused 5 at byte 14'
+book_read 'a seventh place' "20 03 21 06 00$(times 7 " $set_01")" 'refused 3 at byte 47'
+book_read 'a set before a rule' "20 03 $set_01 00" 'refused 1 at byte 2'
+for missing in 0 1 2 3 4 5; do
+    book_read "a set of $missing bytes" "20 03 21 01 00 23$(times $missing ' 00' | head -c $((3 * missing)))" "refused 1 at byte $((6 + missing))"
+done
+
+# An end tag in a set is 14; one that ends the pattern cuts.
+call 'the end tag in a set' "ending 1 compile 3 1081344 65536 $noun" 'refused 14'
+call 'the end tag behind a set' "ending 2 run_book 6 20 04 21 01 03 $set_01 22 00 22 02 00 / 00 00 02 01 00 02" '2 changed, output 0 3 2 1 3 2'

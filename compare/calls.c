@@ -13,7 +13,7 @@
 #include "reference.h"
 #include "slices.h"
 
-enum { REFUSALS = 18, SIZES = 9, MOST_SHOWN = 4096, SECONDS_A_CALL = 100, RULES_ROOM = 2 * LONGEST_TRIED_SENTENCE };
+enum { REFUSALS = 20, SIZES = 9, MOST_SHOWN = 4096, SECONDS_A_CALL = 100, RULES_ROOM = 2 * LONGEST_TRIED_SENTENCE };
 enum { STATE, GIVEN, CLOSED, NUMBERS };
 
 static const char *const call_name[CALLS] = {
@@ -139,13 +139,13 @@ void start_calls(uint64_t seed)
     sentence_slice = make_slice(LONGEST_TRIED_SENTENCE);
     out_slice = make_slice(TABLE_ROOM);
     rules_slice = make_slice(RULES_ROOM);
-    work_slice = make_slice((WIDEST_WORK + 1000) * sizeof(uint16_t));
+    work_slice = make_slice((ONE_SET_WORK + 1000) * sizeof(uint16_t));
     loaded_slice = make_slice(TABLE_ROOM * sizeof(uint32_t));
     for (int i = 0; i < NUMBERS; i++)
         number_slice[i] = make_slice(sizeof(uint64_t));
     expected_out = room_for(TABLE_ROOM);
     expected_rules = room_for(RULES_ROOM);
-    expected_work = room_for((WIDEST_WORK + 1000) * sizeof(uint16_t));
+    expected_work = room_for((ONE_SET_WORK + 1000) * sizeof(uint16_t));
     expected_loaded = room_for(TABLE_ROOM * sizeof(uint32_t));
     for (size_t i = 0; i < sizeof caught / sizeof *caught; i++)
         signal(caught[i], on_signal);
@@ -241,8 +241,8 @@ static size_t rules_in(const uint8_t *valid_book)
 {
     size_t rules = 0;
 
-    for (size_t i = 2; valid_book[i] != 0x00; i += valid_book[i] == 0x22 ? 2 : 3)
-        rules += valid_book[i] != 0x22;
+    for (size_t i = 2; valid_book[i] != 0x00; i += valid_book[i] == 0x22 ? 2 : valid_book[i] == 0x23 ? 7 : 3)
+        rules += valid_book[i] != 0x22 && valid_book[i] != 0x23;
     return rules;
 }
 

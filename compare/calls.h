@@ -31,6 +31,8 @@ enum call {
 enum { LONGEST_TABLE = 2061157, TABLE_ROOM = 3200000, MOST_WORK = 16 * 256 * 49 * 88 };
 /* With the widest limits. */
 enum { WIDEST_TABLE = 2860837, WIDEST_WORK = 20 * 256 * 49 * 120 };
+/* With a set, and one rule. */
+enum { ONE_SET_WORK = 260 * 256 * 49 * 15 };
 
 /* The limits of a call, any numbers. */
 struct limits {

@@ -14,6 +14,7 @@
 #include "nedzsuka.h"
 #include "places.h"
 #include "rules.h"
+#include "sets.h"
 #include "slices.h"
 #include "starter.h"
 #include "typing.h"
@@ -118,10 +119,10 @@ static void compare_work_helper(void)
     for (size_t ceiling = 1; ceiling <= 256; ceiling++)
         for (size_t tags = 2; tags <= 48; tags++)
             for (size_t rules = 0; rules <= 16; rules++)
-                if (nedzsuka_work_entries(ceiling, tags, rules) != work_entries(ceiling, tags, rules))
+                if (nedzsuka_work_entries(ceiling, tags, rules, 0) != work_entries(ceiling, tags, rules))
                     fail("nedzsuka_work_entries differs from document 01");
-    if (nedzsuka_work_entries(0, 2, 1) || nedzsuka_work_entries(257, 2, 1) || nedzsuka_work_entries(1, 1, 1) ||
-        nedzsuka_work_entries(1, 49, 1) || nedzsuka_work_entries(1, 2, 17) || nedzsuka_work_entries(UINT64_MAX, 2, 1))
+    if (nedzsuka_work_entries(0, 2, 1, 0) || nedzsuka_work_entries(257, 2, 1, 0) || nedzsuka_work_entries(1, 1, 1, 1) ||
+        nedzsuka_work_entries(1, 49, 1, 0) || nedzsuka_work_entries(1, 2, 17, 1) || nedzsuka_work_entries(UINT64_MAX, 2, 1, 0))
         fail("nedzsuka_work_entries isn't 0 outside the bounds");
 }
 
@@ -631,6 +632,7 @@ static void compare_chosen(void)
     compare_one_rules();
     compare_full_sentences();
     compare_places();
+    compare_set_cases();
     compare_two_rules();
     compare_starter_table();
     compare_ending_cases();
@@ -651,6 +653,7 @@ static void compare_drawn(void)
     compare_limited_books(9000);
     compare_limited_tables(30000);
     compare_rules_books(9000);
+    compare_set_books(6000);
     compare_bytes_of_books(30000);
     compare_damaged_books(60000);
     compare_lengthened_books(6000);

@@ -206,16 +206,16 @@ void compare_limits_helpers(void)
         for (size_t ceiling = 1; ceiling <= 256; ceiling += 5)
             for (size_t tags = 2; tags <= 48; tags++)
                 for (size_t rules = 0; rules <= 16; rules++)
-                    if (nedzsuka_work_entries_within(pattern, 16, 48, ceiling, tags, rules) !=
+                    if (nedzsuka_work_entries_within(pattern, 16, 48, ceiling, tags, rules, 0) !=
                         work_entries_within(pattern, ceiling, tags, rules))
                         fail("nedzsuka_work_entries_within differs from document 02");
-    if (nedzsuka_work_entries_within(0, 16, 48, 1, 2, 1) || nedzsuka_work_entries_within(9, 16, 48, 1, 2, 1) ||
-        nedzsuka_work_entries_within(8, 0, 48, 1, 2, 0) || nedzsuka_work_entries_within(8, 17, 48, 1, 2, 1) ||
-        nedzsuka_work_entries_within(8, 16, 1, 1, 1, 1) || nedzsuka_work_entries_within(8, 16, 49, 1, 2, 1) ||
-        nedzsuka_work_entries_within(8, 2, 48, 1, 2, 3) || nedzsuka_work_entries_within(8, 2, 4, 1, 5, 1) ||
-        nedzsuka_work_entries_within(UINT64_MAX, 2, 4, 1, 3, 1))
+    if (nedzsuka_work_entries_within(0, 16, 48, 1, 2, 1, 0) || nedzsuka_work_entries_within(9, 16, 48, 1, 2, 1, 0) ||
+        nedzsuka_work_entries_within(8, 0, 48, 1, 2, 0, 0) || nedzsuka_work_entries_within(8, 17, 48, 1, 2, 1, 0) ||
+        nedzsuka_work_entries_within(8, 16, 1, 1, 1, 1, 0) || nedzsuka_work_entries_within(8, 16, 49, 1, 2, 1, 0) ||
+        nedzsuka_work_entries_within(8, 2, 48, 1, 2, 3, 0) || nedzsuka_work_entries_within(8, 2, 4, 1, 5, 1, 0) ||
+        nedzsuka_work_entries_within(UINT64_MAX, 2, 4, 1, 3, 1, 0))
         fail("nedzsuka_work_entries_within isn't 0 outside the bounds");
-    if (nedzsuka_work_entries_within(8, 16, 48, 256, 48, 16) != WIDEST_WORK || (size_t)NEDZSUKA_WIDEST_WORK != WIDEST_WORK ||
+    if (nedzsuka_work_entries_within(8, 16, 48, 256, 48, 16, 0) != WIDEST_WORK || (size_t)NEDZSUKA_WIDEST_WORK != WIDEST_WORK ||
         nedzsuka_table_bytes_within(8, 16, 48, 256, 48, 16) != WIDEST_TABLE || (size_t)NEDZSUKA_WIDEST_TABLE != WIDEST_TABLE)
         fail("not the greatest work slice or the longest table");
 }

@@ -1,4 +1,4 @@
-/* The second implementation. It compiles rule by rule: the smallest transducer so far is paired with the matched lengths of the next
+/* The second implementation. It compiles rule by rule: the smallest transducer so far is paired with the sets of matched lengths of the next
    rule, each pair's common front is a shortest distance, and states are found in the order of their numbers, a newly reached pair
    being compared with the states found before it. Scratch memory is static: one thread only. */
 #include "reference.h"
@@ -14,7 +14,8 @@ enum {
     MOST_HELD = 112,
     NO_END = 255,
     LONGEST_SENTENCE = 65535,
-    MOST_PAIRS = MOST_STATES * (LONGEST_PATTERN + 1),
+    MOST_ALIVE = (1 << (LONGEST_PATTERN - 1)) + 1,
+    MOST_PAIRS = MOST_STATES * MOST_ALIVE,
     LONGEST_WORD = 128,
     LONGEST_TABLE = 2860837
 };
@@ -24,14 +25,17 @@ static struct {
     int pattern, rules, tags;
 } limits = {6, 16, 48};
 
+/* A place of the pattern is a set, or where that is 0 a tag. */
 struct rule {
     uint8_t pattern[LONGEST_PATTERN];
+    uint64_t set[LONGEST_PATTERN];
     int length, place, new_tag, everywhere;
 };
 
-/* With the end tag of the call, 255 for none. */
+/* With the end tag of the call, 255 for none, and the bytes so far of the set that is read. */
 struct book {
-    int tags, rules, end;
+    int tags, rules, end, set_bytes;
+    uint64_t set;
     struct rule rule[MOST_RULES];
 };
 
@@ -51,7 +55,20 @@ struct machine {
 
 /* ---- The bytes of a book, one byte at a time ---- */
 
-enum expected { OPENING, TAGS, COMMAND, PLACE, NEW_TAG, PATTERN_TAG, NOTHING };
+enum expected { OPENING, TAGS, COMMAND, PLACE, NEW_TAG, PATTERN_TAG, SET_BYTE, NOTHING };
+
+static int accepts(const struct rule *rule, int place, int tag)
+{
+    return rule->set[place] ? (int)(rule->set[place] >> tag & 1) : rule->pattern[place] == tag;
+}
+
+static int has_set_from(const struct rule *rule, int place)
+{
+    for (; place < rule->length; place++)
+        if (rule->set[place])
+            return 1;
+    return 0;
+}
 
 static int refusal_at_closing(const struct book *book)
 {
@@ -64,6 +81,8 @@ static int refusal_at_closing(const struct book *book)
         return 3;
     if (last->place >= last->length)
         return 5;
+    if (has_set_from(last, last->place))
+        return 19;
     return last->pattern[last->place] == last->new_tag ? 6 : 0;
 }
 
@@ -71,8 +90,10 @@ static int read_command(struct book *book, uint8_t byte, enum expected *expected
 {
     int refusal = 0;
 
-    if (byte == 0x22) {
-        *expected = PATTERN_TAG;
+    if (byte == 0x22 || byte == 0x23) {
+        *expected = byte == 0x22 ? PATTERN_TAG : SET_BYTE;
+        book->set = 0;
+        book->set_bytes = 0;
         if (book->rules == 0)
             return 1;
         return book->rule[book->rules - 1].length == limits.pattern ? 3 : 0;
@@ -94,6 +115,33 @@ static int read_command(struct book *book, uint8_t byte, enum expected *expected
     return 0;
 }
 
+static int ones_of(uint64_t set)
+{
+    int ones = 0;
+
+    for (int tag = 0; tag < MOST_TAGS; tag++)
+        ones += (int)(set >> tag & 1);
+    return ones;
+}
+
+/* Six bytes, the high one first. */
+static int read_set_byte(struct book *book, uint8_t byte, enum expected *expected)
+{
+    struct rule *last = &book->rule[book->rules - 1];
+
+    book->set = book->set * 256 + byte;
+    if (++book->set_bytes < 6)
+        return 0;
+    *expected = COMMAND;
+    if (book->set >> book->tags != 0)
+        return 4;
+    if (ones_of(book->set) < 2)
+        return 18;
+    last->pattern[last->length] = 0;
+    last->set[last->length++] = book->set;
+    return 0;
+}
+
 static int read_operand(struct book *book, uint8_t byte, enum expected *expected)
 {
     struct rule *last;
@@ -111,10 +159,12 @@ static int read_operand(struct book *book, uint8_t byte, enum expected *expected
     }
     if (byte >= book->tags)
         return 4;
-    if (now == NEW_TAG)
+    if (now == NEW_TAG) {
         last->new_tag = byte;
-    else
-        last->pattern[last->length++] = byte;
+        return 0;
+    }
+    last->set[last->length] = 0;
+    last->pattern[last->length++] = byte;
     return 0;
 }
 
@@ -133,6 +183,8 @@ static int read_book_to(const uint8_t *bytes, size_t length, struct book *book, 
             expected = TAGS;
         } else if (expected == COMMAND) {
             refusal = read_command(book, bytes[*at], &expected);
+        } else if (expected == SET_BYTE) {
+            refusal = read_set_byte(book, bytes[*at], &expected);
         } else {
             refusal = read_operand(book, bytes[*at], &expected);
         }
@@ -165,7 +217,7 @@ uint64_t reference_read_book(const uint8_t *bytes, size_t length)
 static int rule_misuses(const struct rule *rule, int end)
 {
     for (int i = 0; i + 1 < rule->length; i++)
-        if (rule->pattern[i] == end)
+        if (accepts(rule, i, end))
             return 1;
     return rule->pattern[rule->place] == end || rule->new_tag == end;
 }
@@ -211,7 +263,7 @@ static uint64_t changed_times_256(const uint8_t *sentence, const uint8_t *result
 static int occurs_at(const struct rule *rule, const uint8_t *tags)
 {
     for (int i = 0; i < rule->length; i++)
-        if (tags[i] != rule->pattern[i])
+        if (!accepts(rule, i, tags[i]))
             return 0;
     return 1;
 }
@@ -643,51 +695,61 @@ uint64_t reference_run_loaded(const uint32_t *loaded, size_t loaded_len, const u
     return changed_times_256(sentence, out, sentence_len);
 }
 
-/* ---- One rule's transducer (definition 2): its states are the matched lengths ---- */
+/* ---- One rule's transducer (definition 2): its states are the sets of matched lengths, bit i for the length i + 1 ---- */
 
-/* Everywhere: a whole match leads back to the start, so that the whole length is no state. */
+/* Once: the whole length alone. Everywhere: a whole match leads back to the start, so that the whole length is in no state. */
 static int after_match(const struct rule *rule)
 {
-    return rule->everywhere ? 0 : rule->length;
+    return rule->everywhere ? 0 : 1 << (rule->length - 1);
 }
 
-static int held_at(const struct rule *rule, int matched)
+static int longest_of(int alive)
 {
-    return matched > rule->place && matched < rule->length ? matched - rule->place : 0;
-}
+    int longest = 0;
 
-/* The longest end of the matched tags and the tag read that begins the pattern. */
-static int matched_after(const struct rule *rule, int matched, int tag)
-{
-    uint8_t read[LONGEST_PATTERN + 1];
-    int longest = matched + 1;
-
-    memcpy(read, rule->pattern, (size_t)matched);
-    read[matched] = (uint8_t)tag;
-    while (memcmp(read + matched + 1 - longest, rule->pattern, (size_t)longest) != 0)
-        longest--;
+    while (alive >> longest != 0)
+        longest++;
     return longest;
 }
 
+/* How many tags are held where these lengths are matched: from the place on. */
+static int held_at(const struct rule *rule, int alive)
+{
+    int matched = longest_of(alive);
+
+    return matched > rule->place && matched < rule->length ? matched - rule->place : 0;
+}
+
+/* A length is matched after the tag if one less was, or none, and the place there accepts it. */
+static int alive_after(const struct rule *rule, int alive, int tag)
+{
+    int next = 0;
+
+    for (int i = 0; i < rule->length; i++)
+        if ((i == 0 || alive >> (i - 1) & 1) && accepts(rule, i, tag))
+            next |= 1 << i;
+    return next;
+}
+
 /* Feeds one tag to the rule; what it puts out goes after the word. */
-static int feed(const struct rule *rule, int matched, int tag, struct word *word)
+static int feed(const struct rule *rule, int alive, int tag, struct word *word)
 {
     int next, free_tags;
 
-    if (matched == rule->length) {
+    if (longest_of(alive) == rule->length) {
         put(word, tag);
-        return matched;
+        return alive;
     }
-    next = matched_after(rule, matched, tag);
-    if (next == rule->length) {
+    next = alive_after(rule, alive, tag);
+    if (longest_of(next) == rule->length) {
         put(word, rule->new_tag);
         for (int i = rule->place + 1; i < rule->length; i++)
             put(word, rule->pattern[i]);
         return after_match(rule);
     }
-    free_tags = held_at(rule, matched) + 1 - held_at(rule, next);
+    free_tags = held_at(rule, alive) + 1 - held_at(rule, next);
     for (int i = 0; i < free_tags; i++)
-        put(word, i < held_at(rule, matched) ? rule->pattern[rule->place + i] : tag);
+        put(word, i < held_at(rule, alive) ? rule->pattern[rule->place + i] : tag);
     return next;
 }
 
@@ -711,11 +773,11 @@ static int feed_word(const struct rule *rule, int end, int matched, const struct
     return matched;
 }
 
-/* ---- Pairs of a state so far and a matched length of the next rule ---- */
+/* ---- Pairs of a state so far and a state of the next rule ---- */
 
 struct pairs {
     int tags, count;
-    int16_t number[MOST_STATES][LONGEST_PATTERN + 1];
+    uint16_t number[MOST_STATES][MOST_ALIVE]; /* from 1 */
     uint16_t state[MOST_PAIRS];
     uint8_t matched[MOST_PAIRS];
     struct row row[MOST_PAIRS];
@@ -726,21 +788,23 @@ struct pairs {
 
 static int pair_number(struct pairs *pairs, int state, int matched)
 {
-    int16_t *number = &pairs->number[state][matched];
+    uint16_t *number = &pairs->number[state][matched];
 
-    if (*number < 0) {
-        *number = (int16_t)pairs->count++;
-        pairs->state[*number] = (uint16_t)state;
-        pairs->matched[*number] = (uint8_t)matched;
+    if (*number == 0) {
+        pairs->state[pairs->count] = (uint16_t)state;
+        pairs->matched[pairs->count] = (uint8_t)matched;
+        *number = (uint16_t)++pairs->count;
     }
-    return *number;
+    return *number - 1;
 }
 
 static void make_pairs(struct pairs *pairs, const struct machine *before, const struct rule *rule, int end)
 {
-    memset(pairs->number, -1, sizeof pairs->number);
+    while (pairs->count > 0) {
+        pairs->count--;
+        pairs->number[pairs->state[pairs->count]][pairs->matched[pairs->count]] = 0;
+    }
     pairs->tags = before->tags;
-    pairs->count = 0;
     pair_number(pairs, 0, 0);
     for (int i = 0; i < pairs->count; i++) {
         const struct row *from = &before->row[pairs->state[i]];
@@ -926,7 +990,8 @@ static int number_states(struct pairs *pairs, int ceiling, struct machine *after
     static int16_t state_of[MOST_PAIRS];
     int found[MOST_STATES] = {0};
 
-    memset(state_of, -1, sizeof state_of);
+    for (int i = 0; i < pairs->count; i++)
+        state_of[i] = -1;
     state_of[0] = 0;
     after->tags = pairs->tags;
     after->states = 1;
@@ -1005,6 +1070,14 @@ static size_t write_table(const struct machine *machine, uint8_t *bytes)
     return (size_t)(to - bytes);
 }
 
+static int some_set(const struct book *book)
+{
+    for (int i = 0; i < book->rules; i++)
+        if (has_set_from(&book->rule[i], 0))
+            return 1;
+    return 0;
+}
+
 uint64_t reference_compile_ending(const uint8_t *book_bytes, size_t book_len, uint8_t end, uint64_t ceiling, uint16_t *work,
                                   size_t work_len, uint8_t *out, size_t out_len)
 {
@@ -1019,7 +1092,7 @@ uint64_t reference_compile_ending(const uint8_t *book_bytes, size_t book_len, ui
     refusal = read_book_ending(book_bytes, book_len, end, &book);
     if (refusal)
         return (uint64_t)refusal;
-    entries = 2 * (size_t)(limits.pattern + 2) * (size_t)ceiling * (size_t)(book.tags + 1) *
+    entries = 2 * (size_t)(some_set(&book) ? (1 << (limits.pattern - 1)) + 2 : limits.pattern + 2) * (size_t)ceiling * (size_t)(book.tags + 1) *
               (size_t)((limits.pattern - 1) * book.rules + 8);
     if (work_len < entries)
         return 9;

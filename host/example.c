@@ -174,7 +174,7 @@ static void *allocate(size_t bytes)
 static uint64_t compile_book(const uint8_t *book, size_t book_len, uint64_t read, const struct request *request, uint8_t **table)
 {
     uint64_t size = nedzsuka_refusal(read) == NEDZSUKA_OK ? nedzsuka_value(read) : 0, tags = size / 256, rules = size % 256, answer;
-    size_t work_len = nedzsuka_work_entries(request->ceiling, tags, rules);
+    size_t work_len = nedzsuka_work_entries(request->ceiling, tags, rules, nedzsuka_has_set(book, book_len));
     size_t table_room = nedzsuka_table_bytes(request->ceiling, tags, rules);
     uint16_t *work = allocate(work_len * sizeof *work);
 

@@ -3,6 +3,7 @@
    A tag is a number from 0 to K - 1. A rule changes one tag of a pattern of 1 to 6 tags, or of 1 to 8 where a call takes limits: the
    leftmost occurrence of the pattern in the sentence, once; where it occurs nowhere, the sentence stays as it is. A rule that fires
    everywhere goes on: after a match, matching begins again behind the match's last tag, and no tag of the old match counts for the next.
+   In front of the tag that changes a pattern may have a set of tags in place of a tag: that place accepts every tag of the set.
    A book applies its rules in order, each to the result of the one before. A table is a sequential transducer: it starts in state 0,
    reads the tags once from left to right, puts out zero or more tags at each, and at the end the final word of its state. A loaded
    table is a table as numbers, made for running.
@@ -45,8 +46,9 @@
    - While a call reads a slice, nothing writes to it. Between calls a host may write what it likes, also over a loaded table.
 
    Bytes of a book (hexadecimal): 20 K opens it; 21 p t opens a rule that puts tag t in place p, counted from 0, and closes the rule
-   before; 24 p t does the same for a rule that fires everywhere; 22 t is the next tag of the rule's pattern; 00 closes the last rule and
-   the book, and is the last byte. A book may mix both kinds of rules.
+   before; 24 p t does the same for a rule that fires everywhere; 22 t is the next tag of the rule's pattern; 23 with six bytes stands for
+   a 22, and its place accepts a set of tags: 48 bits, the high byte first, the lowest bit for tag 0; 00 closes the last rule and the book,
+   and is the last byte. A book may mix both kinds of rules. A set holds at least two tags, all below K, and stands before p.
 
    Bytes of a table: 30 K, then the number of states S in two bytes, the high one first; for each state 31 with the number of held tags, 32
    t for each of them, and for each tag 0 to K - 1 33 with the next state in two bytes, followed by 34 t for each tag put out; 00, the last
@@ -61,8 +63,8 @@
 #include <stdint.h>
 
 /* The version, in words and as 10,000 * major + 100 * minor + patch. */
-#define NEDZSUKA_VERSION "0.7.0"
-#define NEDZSUKA_VERSION_NUMBER 700
+#define NEDZSUKA_VERSION "0.8.0"
+#define NEDZSUKA_VERSION_NUMBER 800
 
 #ifdef __cplusplus
 extern "C" {
@@ -73,28 +75,30 @@ enum nedzsuka_bound {
     NEDZSUKA_LEAST_TAGS = 2,            /* K is at least this, */
     NEDZSUKA_MOST_TAGS = 48,            /* and at most this */
     NEDZSUKA_MOST_RULES = 16,           /* rules in a book, and the greatest number of a rule */
-    NEDZSUKA_LONGEST_PATTERN = 6,       /* tags in a pattern; at least one */
+    NEDZSUKA_LONGEST_PATTERN = 6,       /* tags and sets in a pattern; at least one */
     NEDZSUKA_MOST_STATES = 256,         /* states of a table, and the greatest ceiling; at least one */
     NEDZSUKA_MOST_HELD = 80,            /* tags that a state holds, and that a look or a close puts out */
     NEDZSUKA_MOST_PUT = 81,             /* tags that a give puts out */
     NEDZSUKA_LONGEST_SENTENCE = 65535,  /* tags */
-    NEDZSUKA_LONGEST_BOOK = 243,        /* bytes of a valid book: 2 + 16 * (3 + 6 * 2) + 1 */
+    NEDZSUKA_LONGEST_BOOK = 643,        /* bytes of a valid book: 2 + 16 * (3 + 5 * 7 + 2) + 1; without a set 243 */
     NEDZSUKA_LONGEST_TABLE = 2061157,   /* bytes of a well-formed table, compiled or not: 4 + 242 + 255 * 8082 + 1 */
     NEDZSUKA_STARTER_BYTES = 731,       /* bytes of the starter table */
     NEDZSUKA_NO_END = 255,              /* the end tag of calls with none */
-    NEDZSUKA_MOST_WORK = 17661952       /* entries of the work slice that are enough for every call: 16 * 256 * 49 * 88;
+    NEDZSUKA_MOST_WORK = 17661952,      /* entries of the work slice that are enough for every book without a set: 16 * 256 * 49 * 88;
                                            with two bytes each 35,323,904 bytes, about 34 MiB */
+    NEDZSUKA_MOST_SET_WORK = 75063296   /* and for every book: 68 * 256 * 49 * 88; 150,126,592 bytes, about 143 MiB */
 };
 
 /* The greatest limits that a call takes, the least being 1, 1 and 2, and what follows from them. */
 enum nedzsuka_widest {
-    NEDZSUKA_WIDEST_PATTERN = 8,       /* tags in a pattern */
+    NEDZSUKA_WIDEST_PATTERN = 8,       /* tags and sets in a pattern */
     NEDZSUKA_WIDEST_RULES = 16,        /* rules in a book */
     NEDZSUKA_WIDEST_TAGS = 48,         /* K */
     NEDZSUKA_WIDEST_HELD = 112,        /* tags that a state holds */
-    NEDZSUKA_WIDEST_BOOK = 307,        /* bytes of a valid book: 2 + 16 * (3 + 8 * 2) + 1 */
+    NEDZSUKA_WIDEST_BOOK = 867,        /* bytes of a valid book: 2 + 16 * (3 + 7 * 7 + 2) + 1; without a set 307 */
     NEDZSUKA_WIDEST_TABLE = 2860837,   /* bytes of a well-formed table: 4 + 242 + 255 * 11218 + 1 */
-    NEDZSUKA_WIDEST_WORK = 30105600    /* entries of the work slice that are enough for every call: 2 * 10 * 256 * 49 * 120 */
+    NEDZSUKA_WIDEST_WORK = 30105600,   /* entries of the work slice that are enough for every book without a set: 2 * 10 * 256 * 49 * 120 */
+    NEDZSUKA_WIDEST_SET_WORK = 391372800 /* and for every book: 2 * 130 * 256 * 49 * 120 */
 };
 
 /* The refusals. */
@@ -102,8 +106,8 @@ enum nedzsuka_refusal_number {
     NEDZSUKA_OK = 0,                 /* none: the answer carries a result */
     NEDZSUKA_BAD_COMMAND = 1,        /* book: a command unknown or out of place, bytes missing, or bytes after 00 */
     NEDZSUKA_BAD_TAG_COUNT = 2,      /* book: K outside 2 to 48, or to its limit */
-    NEDZSUKA_BAD_PATTERN = 3,        /* book: a pattern that is empty when its rule closes, or a seventh 22, or one beyond its limit */
-    NEDZSUKA_BAD_TAG = 4,            /* book, sentence or give: a tag or new tag not below K */
+    NEDZSUKA_BAD_PATTERN = 3,        /* book: a pattern that is empty when its rule closes, or a seventh 22 or 23, or one beyond its limit */
+    NEDZSUKA_BAD_TAG = 4,            /* book, sentence or give: a tag, new tag or tag of a set not below K */
     NEDZSUKA_BAD_PLACE = 5,          /* book: p not below the pattern's length when the rule closes */
     NEDZSUKA_SAME_TAG = 6,           /* book: the new tag is the tag at p when the rule closes */
     NEDZSUKA_TOO_MANY_RULES = 7,     /* book: a seventeenth rule, or one beyond its limit, by 21 or 24 */
@@ -116,7 +120,9 @@ enum nedzsuka_refusal_number {
     NEDZSUKA_BAD_END = 14,           /* calls with an end tag: the book cannot be used with it */
     NEDZSUKA_CLOSED = 15,            /* give, look and close: the sentence is closed */
     NEDZSUKA_BAD_STATE = 16,         /* give, look and close: the sentence's state is not below the table's S */
-    NEDZSUKA_BAD_LIMIT = 17          /* calls with limits: one of them is outside its range */
+    NEDZSUKA_BAD_LIMIT = 17,         /* calls with limits: one of them is outside its range */
+    NEDZSUKA_SMALL_SET = 18,         /* book: a set of fewer than two tags */
+    NEDZSUKA_LATE_SET = 19           /* book: a set at or after p when the rule closes */
 };
 
 /* Compiles a book to its smallest table and answers the table's length in bytes.
@@ -129,18 +135,19 @@ enum nedzsuka_refusal_number {
 
    Refusals, in this order:
    - 8: the ceiling is outside 1 to 256.
-   - 1 to 7: the book is not valid. The refusal at the earliest byte is given; the end of the bytes counts as a place after the last.
-     At a closing 3, 5 and 6 come in that order, all before 7.
-   - 9: work_len is below 16 * ceiling * (K + 1) * (5 * m + 8) for a book of m rules.
+   - 1 to 7, 18 and 19: the book is not valid. The refusal at the earliest byte is given; the end of the bytes counts as a place after the
+     last. At a closing 3, 5, 19 and 6 come in that order, all before 7. 4 and 18 are found at a set's last byte, 4 first.
+   - 9: work_len is below 16 * ceiling * (K + 1) * (5 * m + 8) for a book of m rules, or, if one of them has a set, below
+     68 * ceiling * (K + 1) * (5 * m + 8).
    - 10 with i: given exactly if some leading part of the book, its first i rules with i from 1 to m, needs more than ceiling states in
      every sequential transducer that does what these rules do; the least such i is named.
    - 11: out_len is below the table's length.
 
    nedzsuka_work_entries and nedzsuka_table_bytes, below, give lengths of work and out that are enough; nedzsuka_read_book gives the K
-   and the number of rules that they ask for. Time and memory grow with the ceiling, whatever the number of states is in the end.
+   and the number of rules that they ask for, nedzsuka_has_set tells whether there is a set. Time and memory grow with the ceiling, whatever the number of states is in the end.
 
-   The work slice keeps its numbers on the refusals before 10 (8, 1 to 7, 14 and 9). On 10, on 11 and with a result its first
-   16 * ceiling * (K + 1) * (5 * m + 8) entries are zero and the rest unchanged. What it holds before the call plays no part. */
+   The work slice keeps its numbers on the refusals before 10 (8, the book's, 14 and 9). On 10, on 11 and with a result its first
+   entries, as many as 9 asks for, are zero and the rest unchanged. What it holds before the call plays no part. */
 uint64_t nedzsuka_compile(const uint8_t *book, size_t book_len, uint64_t ceiling, uint16_t *work, size_t work_len, uint8_t *out,
                           size_t out_len);
 
@@ -149,9 +156,9 @@ uint64_t nedzsuka_compile(const uint8_t *book, size_t book_len, uint64_t ceiling
    is looked at with the end tag too; and two books over equally many tags that compile, each with its own end tag, get the same bytes
    exactly if they make the same of every sentence with it.
 
-   Refusals, in this order: 8, 1 to 7, 14, 9, 10, 11, as for nedzsuka_compile, and
-   - 14: end is neither below the book's K nor 255; or end is a tag of a pattern before its last place; or a rule changes end, or puts
-     it. The upper part is 0, and the work slice and the output slice keep what they had. */
+   Refusals, in this order: 8, the book's, 14, 9, 10, 11, as for nedzsuka_compile, and
+   - 14: end is neither below the book's K nor 255; or end is a tag of a pattern before its last place, or in a set; or a rule changes end,
+     or puts it. The upper part is 0, and the work slice and the output slice keep what they had. */
 uint64_t nedzsuka_compile_ending(const uint8_t *book, size_t book_len, uint8_t end, uint64_t ceiling, uint16_t *work, size_t work_len,
                                  uint8_t *out, size_t out_len);
 
@@ -164,9 +171,9 @@ uint64_t nedzsuka_compile_ending(const uint8_t *book, size_t book_len, uint8_t e
    Refusals, in this order:
    - 17: pattern is outside 1 to 8, or rules outside 1 to 16, or tags outside 2 to 48. The upper part is 0, and the work slice and the
      output slice keep what they had.
-   - 8, 1 to 7, 14, 9, 10 and 11, as for nedzsuka_compile_ending: 2 if K is below 2 or above tags, 3 also for a 22 beyond pattern tags, 7
-     for a rule beyond rules, and 9 if work_len is below 2 * (pattern + 2) * ceiling * (K + 1) * ((pattern - 1) * m + 8) for a book of m
-     rules.
+   - 8, the book's, 14, 9, 10 and 11, as for nedzsuka_compile_ending: 2 if K is below 2 or above tags, 3 also for a 22 or 23 beyond pattern
+     tags, 7 for a rule beyond rules, and 9 if work_len is below 2 * (pattern + 2) * ceiling * (K + 1) * ((pattern - 1) * m + 8) for a
+     book of m rules, with 2 to the power of pattern - 1 in place of pattern if one of them has a set.
 
    nedzsuka_work_entries_within and nedzsuka_table_bytes_within, below, give lengths of work and out that are enough. Small limits need
    less memory, and are compiled with faster. */
@@ -189,7 +196,7 @@ uint64_t nedzsuka_starter_table(uint8_t *out, size_t out_len);
    sentence. Answers the number of places at which sentence and result differ: two changes that undo one another count as none.
 
    Refusals, in this order:
-   - 1 to 7: the book is not valid, as for nedzsuka_compile.
+   - 1 to 7, 18 and 19: the book is not valid, as for nedzsuka_compile.
    - 13: sentence_len is above 65,535.
    - 4: a tag of the sentence is not below the book's K.
    - 11: out_len is below sentence_len. */
@@ -199,7 +206,7 @@ uint64_t nedzsuka_run_book(const uint8_t *book, size_t book_len, const uint8_t *
 /* Runs a book over a slice of sentences that end with the tag end, or NEDZSUKA_NO_END for none: as nedzsuka_run_book, which is the call
    with NEDZSUKA_NO_END, with the joined result of the pieces. What comes after the last end tag is a piece too.
 
-   Refusals, in this order: 1 to 7, 14, 13, 4, 11, as for nedzsuka_run_book and nedzsuka_compile_ending. */
+   Refusals, in this order: the book's, 14, 13, 4, 11, as for nedzsuka_run_book and nedzsuka_compile_ending. */
 uint64_t nedzsuka_run_book_ending(const uint8_t *book, size_t book_len, uint8_t end, const uint8_t *sentence, size_t sentence_len,
                                   uint8_t *out, size_t out_len);
 
@@ -217,20 +224,20 @@ uint64_t nedzsuka_run_book_ending(const uint8_t *book, size_t book_len, uint8_t 
    What lies beyond sentence_len stays as it was in both slices, and on every refusal both keep all their bytes. A table carries no rule
    numbers, so there is no such call for tables.
 
-   Refusals, in this order: 1 to 7, 14, 13, 4, as for nedzsuka_run_book_ending, and
+   Refusals, in this order: the book's, 14, 13, 4, as for nedzsuka_run_book_ending, and
    - 11: out_len or rules_len is below sentence_len. */
 uint64_t nedzsuka_run_book_rules(const uint8_t *book, size_t book_len, uint8_t end, const uint8_t *sentence, size_t sentence_len,
                                  uint8_t *out, size_t out_len, uint8_t *rules, size_t rules_len);
 
 /* Runs a book as nedzsuka_run_book_ending does, with the limits of the call, which are those of nedzsuka_compile_within.
 
-   Refusals, in this order: 17, as for nedzsuka_compile_within, then 1 to 7 with these limits, 14, 13, 4 and 11. */
+   Refusals, in this order: 17, as for nedzsuka_compile_within, then the book's with these limits, 14, 13, 4 and 11. */
 uint64_t nedzsuka_run_book_within(uint64_t pattern, uint64_t rules, uint64_t tags, const uint8_t *book, size_t book_len, uint8_t end,
                                   const uint8_t *sentence, size_t sentence_len, uint8_t *out, size_t out_len);
 
 /* Reads a book and answers K * 256 + the number of its rules.
 
-   Refusals: 1 to 7, as for nedzsuka_compile. The upper part is the byte at which the refusal is given, counted from 0; book_len where
+   Refusals: 1 to 7, 18 and 19, as for nedzsuka_compile. The upper part is the byte at which the refusal is given, counted from 0; book_len where
    bytes are missing. */
 uint64_t nedzsuka_read_book(const uint8_t *book, size_t book_len);
 
@@ -396,32 +403,46 @@ static inline const char *nedzsuka_in_words(unsigned refusal)
         "the sentence is closed",
         "the sentence's state is not one of the table's",
         "a limit is outside its range: 1 to 8 tags in a pattern, 1 to 16 rules, 2 to 48 for the greatest number of tags",
+        "a set of tags has fewer than two",
+        "a set of tags stands at the place that the rule changes, or after it",
     };
 
     return refusal < sizeof words / sizeof *words ? words[refusal] : "unknown refusal";
 }
 
-/* The entries that nedzsuka_compile_within asks of its work slice: the limits of the call, then a ceiling, the book's K and its number of
-   rules. It is 0 for a limit outside its range, a ceiling outside 1 to 256, K outside 2 to most_tags or more than most_rules rules; the
-   call refuses these whatever its slices are. It is never above NEDZSUKA_WIDEST_WORK. */
+/* Whether a rule of the book has a set, 1 or 0, of a book that nedzsuka_read_book does not refuse. It never reads beyond the book's bytes. */
+static inline int nedzsuka_has_set(const uint8_t *book, size_t book_len)
+{
+    size_t at = 2;
+
+    while (at < book_len && book[at] != 0x00 && book[at] != 0x23)
+        at += book[at] == 0x22 ? 2 : 3;
+    return at < book_len && book[at] == 0x23;
+}
+
+/* The entries that nedzsuka_compile_within asks of its work slice: the limits of the call, then a ceiling, the book's K, its number of
+   rules, and whether one of them has a set, 1 or 0. It is 0 for a limit outside its range, a ceiling outside 1 to 256, K outside 2 to
+   most_tags or more than most_rules rules; the call refuses these whatever its slices are. It is never above NEDZSUKA_WIDEST_SET_WORK, and
+   without a set never above NEDZSUKA_WIDEST_WORK. */
 static inline size_t nedzsuka_work_entries_within(uint64_t pattern, uint64_t most_rules, uint64_t most_tags, uint64_t ceiling,
-                                                  uint64_t tags, uint64_t rules)
+                                                  uint64_t tags, uint64_t rules, int has_set)
 {
     if (pattern < 1 || pattern > NEDZSUKA_WIDEST_PATTERN || most_rules < 1 || most_rules > NEDZSUKA_WIDEST_RULES ||
         most_tags < NEDZSUKA_LEAST_TAGS || most_tags > NEDZSUKA_WIDEST_TAGS)
         return 0;
     if (ceiling < 1 || ceiling > NEDZSUKA_MOST_STATES || tags < NEDZSUKA_LEAST_TAGS || tags > most_tags || rules > most_rules)
         return 0;
-    return (size_t)(2 * (pattern + 2) * ceiling * (tags + 1) * ((pattern - 1) * rules + 8));
+    return (size_t)(2 * ((has_set ? UINT64_C(1) << (pattern - 1) : pattern) + 2) * ceiling * (tags + 1) * ((pattern - 1) * rules + 8));
 }
 
-/* The entries, of two bytes each, that compile asks of its work slice for a ceiling, the book's K and its number of rules. K is the
-   book's second byte; where the number of rules is not known, 16, NEDZSUKA_MOST_RULES, is enough. For a ceiling outside 1 to 256, K
-   outside 2 to 48 or more than 16 rules it is 0; compile refuses these whatever its slices are. It is never above NEDZSUKA_MOST_WORK,
-   so that neither the product nor the number of bytes overflows where size_t has 32 bits. */
-static inline size_t nedzsuka_work_entries(uint64_t ceiling, uint64_t tags, uint64_t rules)
+/* The entries, of two bytes each, that compile asks of its work slice for a ceiling, the book's K, its number of rules, and whether one of
+   them has a set, 1 or 0. K is the book's second byte; where the number of rules is not known, 16, NEDZSUKA_MOST_RULES, is enough, and where
+   it is not known whether there is a set, 1 is. For a ceiling outside 1 to 256, K outside 2 to 48 or more than 16 rules it is 0; compile
+   refuses these whatever its slices are. It is never above NEDZSUKA_MOST_SET_WORK, and without a set never above NEDZSUKA_MOST_WORK, so that
+   neither the product nor the number of bytes overflows where size_t has 32 bits. */
+static inline size_t nedzsuka_work_entries(uint64_t ceiling, uint64_t tags, uint64_t rules, int has_set)
 {
-    return nedzsuka_work_entries_within(NEDZSUKA_LONGEST_PATTERN, NEDZSUKA_MOST_RULES, NEDZSUKA_MOST_TAGS, ceiling, tags, rules);
+    return nedzsuka_work_entries_within(NEDZSUKA_LONGEST_PATTERN, NEDZSUKA_MOST_RULES, NEDZSUKA_MOST_TAGS, ceiling, tags, rules, has_set);
 }
 
 /* Bytes that are enough for the table of every book with at most this ceiling of states, this K and at most this many rules, compiled with
@@ -432,7 +453,7 @@ static inline size_t nedzsuka_table_bytes_within(uint64_t pattern, uint64_t most
 {
     uint64_t held = (pattern - 1) * rules;
 
-    if (nedzsuka_work_entries_within(pattern, most_rules, most_tags, ceiling, tags, rules) == 0)
+    if (nedzsuka_work_entries_within(pattern, most_rules, most_tags, ceiling, tags, rules, 0) == 0)
         return 0;
     return (size_t)(4 + (2 + 5 * tags) + (ceiling - 1) * (2 + 2 * held + tags * (3 + 2 * (held + 1))) + 1);
 }

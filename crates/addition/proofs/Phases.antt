@@ -8,12 +8,14 @@ use lib.ListN.{length}
 use Rattle.limits.specs.Work.{rule-rows}
 use Rattle.limits.proofs.Work.{composition-fits}
 use Rattle.words.specs.Pieces.{piecewise}
+use Rattle.cascades.specs.Pattern.{word}
 use Rattle.cascades.specs.Rule.{Rule}
 use Rattle.cascades.specs.Rewrite.{apply}
+use Rattle.cascades.proofs.Pattern.{word-length}
 use Rattle.transducers.specs.Table.{shape}
 use Rattle.transducers.specs.Canonical.{Early, Canonical}
 use Rattle.transducers.specs.Tabulate.{Doing, Made, Any}
-use Rattle.minimal.specs.OneRule.{ruleTable}
+use Rattle.minimal.specs.OneRule.{oneRule, ruleTable}
 use Rattle.minimal.proofs.TableOf.{Good, good-add, good-only, doing-rule}
 use Rattle.workspace.specs.declared.Grid.{Grid}
 use Rattle.workspace.specs.Entries.{CLASS, LINK}
@@ -48,16 +50,16 @@ module _ (g : Grid) (W : List ℕ) (n ceiling s end : ℕ) (r : Rule) (ok : Adda
   abbrev makes : List ℕ → List ℕ
   makes = λ w. piecewise end (apply r) (ok .makes w)
 
-  pub room : Room g W (r .pattern) (r .place)
+  pub room : Room g W (word (r .pattern)) (r .place)
   room =
       record {
         sized = ok .sized;
-        place-inside = ok .valid .place-inside;
-        deep = omega (arith, ok .valid .short, ok .deep);
+        place-inside = omega (arith, ok .valid .place-inside, word-length (r .pattern));
+        deep = omega (arith, ok .valid .place-inside, ok .valid .short, word-length (r .pattern), ok .deep);
       }
 
-  pub rule-fits : base + (length (r .pattern) + 1) ≤ g .rows
-  rule-fits = omega (arith, ok .valid .short, ok .states, ok .rows)
+  pub rule-fits : base + oneRule r .count ≤ g .rows
+  rule-fits = omega (arith, ok .states, ok .rows)
 
   -- the rule's table has been written to its rows
   module _ (X : List ℕ) (m : ℕ) (ruled : Ruled g W X (base) m end r) where
@@ -75,8 +77,7 @@ module _ (g : Grid) (W : List ℕ) (n ceiling s end : ℕ) (r : Rule) (ok : Adda
     second-doing = stands-doing g X (base) m _ _ _ second-stands
 
     product-fits : ceiling + n * m ≤ base
-    product-fits =
-        composition-fits s ceiling n m (ok .few) (omega (arith, ok .valid .short, ok .states, ruled .few))
+    product-fits = composition-fits s ceiling n m (ok .few) (omega (arith, ok .states, ruled .count-is))
 
     pub composable : Composable g X 0 n (base) m ceiling
     composable =
@@ -155,7 +156,7 @@ module _ (g : Grid) (W : List ℕ) (n ceiling s end : ℕ) (r : Rule) (ok : Adda
             all-rows : Kept g W U (In-rows 0 (g .rows))
             all-rows =
                 kept-then g (In-rows 0 (g .rows)) W X U
-                (kept-wider g (In-rows 0 (g .rows)) (In-rows (base) (base + m)) W X (ruled .kept) (λ r' c' e' p. (omega arith, omega (arith, p .1, rule-fits, ruled .few))))
+                (kept-wider g (In-rows 0 (g .rows)) (In-rows (base) (base + m)) W X (ruled .kept) (λ r' c' e' p. (omega arith, omega (arith, p .1, rule-fits, ruled .count-is))))
                 (kept-then g (In-rows 0 (g .rows)) X Y U
                 (kept-wider g (In-rows 0 (g .rows)) (In-rows ceiling (ceiling + n * m)) X Y (composed .kept) (λ r' c' e' p. (omega arith, omega (arith, p .1, product-fits, ok .rows, ok .some))))
                 (kept-then g (In-rows 0 (g .rows)) Y Z U

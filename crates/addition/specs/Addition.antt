@@ -9,7 +9,7 @@ use Rattle.cascades.specs.Rule.{Rule, ValidRule}
 use Rattle.cascades.specs.Ending.{before}
 use Rattle.transducers.specs.Table.{Table, shape}
 use Rattle.transducers.specs.Canonical.{Canonical}
-use Rattle.minimal.specs.OneRule.{ruleTable}
+use Rattle.minimal.specs.OneRule.{oneRule, ruleTable}
 use Rattle.minimal.specs.TableOf.{add}
 use Rattle.workspace.specs.declared.Grid.{Grid}
 use Rattle.workspace.specs.Entries.{FINAL}
@@ -28,7 +28,7 @@ pub record Addable (g : Grid) (W : List ℕ) (n ceiling s end : ℕ) (r : Rule) 
   pub makes : List ℕ → List ℕ
   pub stands : Stands g W 0 n most makes (λ t. Canonical (g .tags) (shape t))
   pub longest : ℕ
-  pub states : longest + 1 ≤ s
+  pub states : oneRule r .count ≤ s
   pub deep : Fits g FINAL (most + (longest - 1))
   pub valid : ValidRule longest (g .tags) r
   pub free : before end (r .pattern) ≡ false

@@ -25,17 +25,19 @@ pub fn apply_rules(
     rows: &[[u8; PATTERN]; RULES],
     lengths: &[usize; RULES],
     heads: &[[u8; HEAD]; RULES],
+    sets: &[[u64; PATTERN]],
     m: usize,
 )
-    requires { ⌜ Usable m (arrays rows lengths heads) ⌝ }
-    ensures s { λ _. ⌜ now (s .exit) ≡ applyAll (rulesOf (arrays (rows .entry) (lengths .entry) (heads .entry)) m) (now (s .entry)) ⌝ }
-    ensures v { λ _. ⌜ now (v .exit) ≡ traceFrom 1 (rulesOf (arrays (rows .entry) (lengths .entry) (heads .entry)) m) (beside (now (s .entry)) (now (v .entry))) .numbers ⌝ }
+    requires { ⌜ Usable m (arrays rows lengths heads (now sets)) ⌝ }
+    ensures s { λ _. ⌜ now (s .exit) ≡ applyAll (rulesOf (arrays (rows .entry) (lengths .entry) (heads .entry) (now (sets .entry))) m) (now (s .entry)) ⌝ }
+    ensures v { λ _. ⌜ now (v .exit) ≡ traceFrom 1 (rulesOf (arrays (rows .entry) (lengths .entry) (heads .entry) (now (sets .entry))) m) (beside (now (s .entry)) (now (v .entry))) .numbers ⌝ }
 {
     let mut i = 0;
     while i < m {
-        let rule = reader::rule_at(rows, lengths, heads, i);
-        i += 1;
-        rewriting::apply_rule(s, v, rule, i as u8);
+        let rule = reader::rule_at(rows, lengths, heads, sets, i);
+        let number = i + 1;
+        rewriting::apply_rule(s, v, rule, sets, i, number as u8);
+        i = number;
     }
 }
 
@@ -57,14 +59,15 @@ fn apply_afresh(
     rows: &[[u8; PATTERN]; RULES],
     lengths: &[usize; RULES],
     heads: &[[u8; HEAD]; RULES],
+    sets: &[[u64; PATTERN]],
     m: usize,
 )
-    requires { ⌜ Usable m (arrays rows lengths heads) ⌝ }
-    ensures s { λ _. ⌜ now (s .exit) ≡ applyAll (rulesOf (arrays (rows .entry) (lengths .entry) (heads .entry)) m) (now (s .entry)) ⌝ }
-    ensures v { λ _. ⌜ now (v .exit) ≡ traceFrom 1 (rulesOf (arrays (rows .entry) (lengths .entry) (heads .entry)) m) (beside (now (s .entry)) (replicate (length (now (v .entry))) 0)) .numbers ⌝ }
+    requires { ⌜ Usable m (arrays rows lengths heads (now sets)) ⌝ }
+    ensures s { λ _. ⌜ now (s .exit) ≡ applyAll (rulesOf (arrays (rows .entry) (lengths .entry) (heads .entry) (now (sets .entry))) m) (now (s .entry)) ⌝ }
+    ensures v { λ _. ⌜ now (v .exit) ≡ traceFrom 1 (rulesOf (arrays (rows .entry) (lengths .entry) (heads .entry) (now (sets .entry))) m) (beside (now (s .entry)) (replicate (length (now (v .entry))) 0)) .numbers ⌝ }
 {
     clear(v);
-    apply_rules(s, v, rows, lengths, heads, m);
+    apply_rules(s, v, rows, lengths, heads, sets, m);
 }
 
 // How long the first piece is: up to an end tag with it, or all.
@@ -89,16 +92,17 @@ fn apply_first(
     rows: &[[u8; PATTERN]; RULES],
     lengths: &[usize; RULES],
     heads: &[[u8; HEAD]; RULES],
+    sets: &[[u64; PATTERN]],
     m: usize,
 ) -> usize
-    requires { ⌜ Usable m (arrays rows lengths heads) ⌝ }
-    ensures s { λ r. ⌜ Begun (piecewise end (applyAll (rulesOf (arrays (rows .entry) (lengths .entry) (heads .entry)) m))) (piecewise end (applyAll (rulesOf (arrays (rows .entry) (lengths .entry) (heads .entry)) m))) (now (s .entry)) (now (s .exit)) (now (s .exit)) r ⌝ }
-    ensures v { λ r. ⌜ (length (now (v .entry)) ≡ length (now (s .entry)) → Begun (piecewise end (numbersOf (rulesOf (arrays (rows .entry) (lengths .entry) (heads .entry)) m))) (piecewise end (numbersOf (rulesOf (arrays (rows .entry) (lengths .entry) (heads .entry)) m))) (now (s .entry)) (now (s .exit)) (now (v .exit)) r) ⌝ }
+    requires { ⌜ Usable m (arrays rows lengths heads (now sets)) ⌝ }
+    ensures s { λ r. ⌜ Begun (piecewise end (applyAll (rulesOf (arrays (rows .entry) (lengths .entry) (heads .entry) (now (sets .entry))) m))) (piecewise end (applyAll (rulesOf (arrays (rows .entry) (lengths .entry) (heads .entry) (now (sets .entry))) m))) (now (s .entry)) (now (s .exit)) (now (s .exit)) r ⌝ }
+    ensures v { λ r. ⌜ (length (now (v .entry)) ≡ length (now (s .entry)) → Begun (piecewise end (numbersOf (rulesOf (arrays (rows .entry) (lengths .entry) (heads .entry) (now (sets .entry))) m))) (piecewise end (numbersOf (rulesOf (arrays (rows .entry) (lengths .entry) (heads .entry) (now (sets .entry))) m))) (now (s .entry)) (now (s .exit)) (now (v .exit)) r) ⌝ }
     ensures some { λ r. ⌜ (0 < length (now (s .entry)) → 0 < r) ⌝ }
 {
     let n = first_piece(s, end);
     let noted = lesser(n, v.len());
-    apply_afresh(&mut s[..n], &mut v[..noted], rows, lengths, heads, m);
+    apply_afresh(&mut s[..n], &mut v[..noted], rows, lengths, heads, sets, m);
     n
 }
 
@@ -110,11 +114,12 @@ fn apply_pieces(
     rows: &[[u8; PATTERN]; RULES],
     lengths: &[usize; RULES],
     heads: &[[u8; HEAD]; RULES],
+    sets: &[[u64; PATTERN]],
     m: usize,
 )
-    requires { ⌜ Usable m (arrays rows lengths heads) ⌝ }
-    ensures s { λ _. ⌜ now (s .exit) ≡ piecewise end (applyAll (rulesOf (arrays (rows .entry) (lengths .entry) (heads .entry)) m)) (now (s .entry)) ⌝ }
-    ensures v { λ _. ⌜ (length (now (v .entry)) ≡ length (now (s .entry)) → now (v .exit) ≡ piecewise end (numbersOf (rulesOf (arrays (rows .entry) (lengths .entry) (heads .entry)) m)) (now (s .entry))) ⌝ }
+    requires { ⌜ Usable m (arrays rows lengths heads (now sets)) ⌝ }
+    ensures s { λ _. ⌜ now (s .exit) ≡ piecewise end (applyAll (rulesOf (arrays (rows .entry) (lengths .entry) (heads .entry) (now (sets .entry))) m)) (now (s .entry)) ⌝ }
+    ensures v { λ _. ⌜ (length (now (v .entry)) ≡ length (now (s .entry)) → now (v .exit) ≡ piecewise end (numbersOf (rulesOf (arrays (rows .entry) (lengths .entry) (heads .entry) (now (sets .entry))) m)) (now (s .entry))) ⌝ }
 {
     let mut from = 0;
     while from < s.len() {
@@ -126,6 +131,7 @@ fn apply_pieces(
             rows,
             lengths,
             heads,
+            sets,
             m,
         );
     }
@@ -140,16 +146,17 @@ pub fn apply_book(
     rows: &[[u8; PATTERN]; RULES],
     lengths: &[usize; RULES],
     heads: &[[u8; HEAD]; RULES],
+    sets: &[[u64; PATTERN]],
     m: usize,
 )
-    requires { ⌜ Usable m (arrays rows lengths heads) ⌝ }
+    requires { ⌜ Usable m (arrays rows lengths heads (now sets)) ⌝ }
     requires { ⌜ Below no-end (now s) ⌝ }
-    ensures s { λ _. ⌜ now (s .exit) ≡ piecewise end (applyAll (rulesOf (arrays (rows .entry) (lengths .entry) (heads .entry)) m)) (now (s .entry)) ⌝ }
-    ensures v { λ _. ⌜ (length (now (v .entry)) ≡ length (now (s .entry)) → now (v .exit) ≡ piecewise end (numbersOf (rulesOf (arrays (rows .entry) (lengths .entry) (heads .entry)) m)) (now (s .entry))) ⌝ }
+    ensures s { λ _. ⌜ now (s .exit) ≡ piecewise end (applyAll (rulesOf (arrays (rows .entry) (lengths .entry) (heads .entry) (now (sets .entry))) m)) (now (s .entry)) ⌝ }
+    ensures v { λ _. ⌜ (length (now (v .entry)) ≡ length (now (s .entry)) → now (v .exit) ≡ piecewise end (numbersOf (rulesOf (arrays (rows .entry) (lengths .entry) (heads .entry) (now (sets .entry))) m)) (now (s .entry))) ⌝ }
 {
     if end == NO_END {
-        apply_afresh(s, v, rows, lengths, heads, m);
+        apply_afresh(s, v, rows, lengths, heads, sets, m);
     } else {
-        apply_pieces(s, v, end, rows, lengths, heads, m);
+        apply_pieces(s, v, end, rows, lengths, heads, sets, m);
     }
 }

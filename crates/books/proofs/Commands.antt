@@ -1,21 +1,22 @@
 -- Reading one command: what the definition makes of the bytes at `at`, in each case that the code tells apart.
-use Prim.Native.Nat.{ℕ, zero, suc, _+_, _≤_, _<_}
+use Prim.Native.Nat.{ℕ, zero, suc, _+_, _-_, _≤_, _<_}
 use native.Mathlib.Omega.{arith}
 use native.Mathlib.Numerals.{add-one}
 use native.Mathlib.Decide.{ℕ-discrete}
-use mathlib.Core.Path.{_≡_, refl, ap, _∙_}
-use mathlib.Core.List.{List, [], _∷_}
+use mathlib.Core.Path.{_≡_, refl, ap, ap₂, _∙_}
+use mathlib.Core.List.{List, [], _∷_, _++_}
 use borrow.Author.Tests.{lt-ltb, le-ltb, lt-leb, le-leb, ne-eqb}
-use lib.ListN.{length, getD, set, take, drop}
-use lib.Seq.{drop-cons, drop-length, length-take-le, take-suc-set}
-use Rattle.limits.specs.Limits.{fewest-tags, InRange}
+use lib.ListN.{length, getD, drop}
+use lib.Seq.{drop-cons, drop-length}
+use Rattle.limits.specs.Limits.{fewest-tags, most-tags, InRange}
 use Rattle.limits.specs.declared.Limits.{Limits}
-use Rattle.answers.specs.Outcome.{result, refused, nothing, byte}
+use Rattle.answers.specs.Outcome.{result, refused, nothing, byte, andThen}
+use Rattle.cascades.specs.Pattern.{Class, one, any}
 use Rattle.cascades.specs.Rule.{Kind, Rule}
 use Rattle.books.specs.Book.{opener}
-use Rattle.books.specs.Read.{Stage, opening, size, command, place, new-tag, pattern-tag, ended, closing, nextRule, opened, longer, step, finish, readFrom, read}
+use Rattle.books.specs.Read.{Stage, opening, size, command, place, new-tag, pattern-tag, set-byte, ended, closing, nextRule, opened, longer, setRead, step, finish, readFrom, read}
 use Rattle.books.specs.Arrays.{Arrays, Shaped, rulesDown, cascadeOf}
-use Rattle.books.specs.Resume.{readCommands, withTags, readTags, faulted}
+use Rattle.books.specs.Resume.{readCommands, withTags, readTags, numberAt, faulted}
 use Rattle.books.proofs.Step.{step-opens}
 use Rattle.books.proofs.Arrays.{down-length, opened-arrays, opened-down}
 
@@ -51,9 +52,9 @@ module _ (lim : Limits) (s : List ℕ) where
     pub book-many : 1 < length s → fewest-tags ≤ getD s 1 0 → lim .tags < getD s 1 0 → read lim s ≡ refused 2 (byte 1)
     book-many l f g = book-opened ∙ read-stop lim s size 1 2 l (cc (le-leb fewest-tags (getD s 1 0) f, lt-leb (getD s 1 0) (lim .tags) g))
 
-    pub book-sized : (a : Arrays) → 1 < length s → fewest-tags ≤ getD s 1 0 → getD s 1 0 ≤ lim .tags → read lim s ≡ readCommands lim s (getD s 1 0) 0 a 2
-    book-sized a l f g =
-        book-opened ∙ read-go lim s size 1 (command (getD s 1 0) []) l (cc (le-leb fewest-tags (getD s 1 0) f, le-leb (getD s 1 0) (lim .tags) g))
+    pub book-sized : (a : Arrays) → 1 < length s → fewest-tags ≤ getD s 1 0 → getD s 1 0 ≤ lim .tags → getD s 1 0 ≤ most-tags → read lim s ≡ readCommands lim s (getD s 1 0) 0 a 2
+    book-sized a l f g i =
+        book-opened ∙ read-go lim s size 1 (command (getD s 1 0) []) l (cc (le-leb fewest-tags (getD s 1 0) f, le-leb (getD s 1 0) (lim .tags) g, le-leb (getD s 1 0) most-tags i))
 
 -- ---- a command
 
@@ -62,14 +63,22 @@ module _ (lim : Limits) (s : List ℕ) (k m : ℕ) (a : Arrays) (at : ℕ) where
   command-missing e = read-end lim s (command k (rulesDown a m)) at e
 
   module _ (h : at < length s) where
-    -- neither 00, 21 nor 24, and 22 only where no rule is open
-    pub command-unknown : (getD s at 0 ≡ 0x00 → ⊥) → (getD s at 0 ≡ 0x21 → ⊥) → (getD s at 0 ≡ 0x24 → ⊥) → (getD s at 0 ≡ 0x22 → m ≡ 0)
+    -- neither 00, 21 nor 24, and 22 and 23 only where no rule is open
+    pub command-unknown : (getD s at 0 ≡ 0x00 → ⊥) → (getD s at 0 ≡ 0x21 → ⊥) → (getD s at 0 ≡ 0x24 → ⊥) → (getD s at 0 ≡ 0x22 → m ≡ 0) → (getD s at 0 ≡ 0x23 → m ≡ 0)
         → readCommands lim s k m a at ≡ refused 1 (byte at)
-    command-unknown x y z v = read-stop lim s (command k (rulesDown a m)) at 1 h (unknown (ℕ-discrete (getD s at 0) 0x22))
+    command-unknown x y z v w = read-stop lim s (command k (rulesDown a m)) at 1 h (unknown (ℕ-discrete (getD s at 0) 0x22) (ℕ-discrete (getD s at 0) 0x23))
       where
-        unknown : Dec (getD s at 0 ≡ 0x22) → step lim (command k (rulesDown a m)) (getD s at 0) ≡ refused 1 nothing
-        unknown (yes e) = let none : m ≡ 0 = v e in cc
-        unknown (no d) = cc (ne-eqb (getD s at 0) 0x00 x, ne-eqb (getD s at 0) 0x21 y, ne-eqb (getD s at 0) 0x24 z, ne-eqb (getD s at 0) 0x22 d)
+        unknown : Dec (getD s at 0 ≡ 0x22) → Dec (getD s at 0 ≡ 0x23) → step lim (command k (rulesDown a m)) (getD s at 0) ≡ refused 1 nothing
+        unknown (yes e) f = let none : m ≡ 0 = v e in cc
+        unknown (no d) (yes e) = let none : m ≡ 0 = w e in cc
+        unknown (no d) (no f) =
+            cc (
+              ne-eqb (getD s at 0) 0x00 x,
+              ne-eqb (getD s at 0) 0x21 y,
+              ne-eqb (getD s at 0) 0x24 z,
+              ne-eqb (getD s at 0) 0x22 d,
+              ne-eqb (getD s at 0) 0x23 f,
+            )
 
     -- 00
     module _ (e : getD s at 0 ≡ 0x00) where
@@ -129,33 +138,93 @@ module _ (lim : Limits) (s : List ℕ) (k m : ℕ) (a : Arrays) (at : ℕ) where
               (command k (opened kind (getD s (at + 1) 0) (getD s (at + 1 + 1) 0) ∷ rulesDown a m)) l (cc (lt-ltb (getD s (at + 1 + 1) 0) k b))
               ∙ cc (opened-down a sh m (omega (arith, ranged .few-rules)) (getD s (at + 1) 0) (getD s (at + 1 + 1) 0) (getD s at 0) kind e, add-one m)
 
--- ---- the tags of a pattern, of which the row has n so far
+-- ---- one more place of a pattern, which is w so far
 
-module _ (lim : Limits) (s : List ℕ) (k : ℕ) (r : Rule) (rs : List Rule) (row : List ℕ) (n at : ℕ) where
-  module _ (short : n ≤ length row) (h : at < length s) (e : getD s at 0 ≡ 0x22) where
-    pub tag-too-many : lim .pattern ≤ n → readTags lim s k r rs (take n row) at ≡ refused 3 (byte at)
-    tag-too-many l =
-        read-stop lim s (command k (withTags r (take n row) ∷ rs)) at 3 h
-        (cc (le-ltb (length (take n row)) (lim .pattern) (omega (arith, length-take-le n row short))))
+module _ (lim : Limits) (s : List ℕ) (k : ℕ) (r : Rule) (rs : List Rule) (w : List Class) (at : ℕ) (h : at < length s) where
+  -- 22
+  module _ (e : getD s at 0 ≡ 0x22) where
+    pub tag-too-many : lim .pattern ≤ length w → readTags lim s k r rs w at ≡ refused 3 (byte at)
+    tag-too-many l = read-stop lim s (command k (withTags r w ∷ rs)) at 3 h (cc (le-ltb (length w) (lim .pattern) l))
 
-    module _ (room : n < lim .pattern) where
-      tag-counted : readTags lim s k r rs (take n row) at ≡ readFrom lim (pattern-tag k (withTags r (take n row)) rs) (at + 1) (drop (at + 1) s)
-      tag-counted =
-          read-go lim s (command k (withTags r (take n row) ∷ rs)) at (pattern-tag k (withTags r (take n row)) rs) h
-          (cc (lt-ltb (length (take n row)) (lim .pattern) (omega (arith, length-take-le n row short))))
+    module _ (room : length w < lim .pattern) where
+      tag-counted : readTags lim s k r rs w at ≡ readFrom lim (pattern-tag k (withTags r w) rs) (at + 1) (drop (at + 1) s)
+      tag-counted = read-go lim s (command k (withTags r w ∷ rs)) at (pattern-tag k (withTags r w) rs) h (cc (lt-ltb (length w) (lim .pattern) room))
 
-      pub tag-missing : at + 1 ≡ length s → readTags lim s k r rs (take n row) at ≡ refused 1 (byte (at + 1))
-      tag-missing l = tag-counted ∙ read-end lim s (pattern-tag k (withTags r (take n row)) rs) (at + 1) l
+      pub tag-missing : at + 1 ≡ length s → readTags lim s k r rs w at ≡ refused 1 (byte (at + 1))
+      tag-missing l = tag-counted ∙ read-end lim s (pattern-tag k (withTags r w) rs) (at + 1) l
 
-      pub tag-high : at + 1 < length s → k ≤ getD s (at + 1) 0 → readTags lim s k r rs (take n row) at ≡ refused 4 (byte (at + 1))
-      tag-high l b =
-          tag-counted ∙ read-stop lim s (pattern-tag k (withTags r (take n row)) rs) (at + 1) 4 l (cc (le-ltb (getD s (at + 1) 0) k b))
+      pub tag-high : at + 1 < length s → k ≤ getD s (at + 1) 0 → readTags lim s k r rs w at ≡ refused 4 (byte (at + 1))
+      tag-high l b = tag-counted ∙ read-stop lim s (pattern-tag k (withTags r w) rs) (at + 1) 4 l (cc (le-ltb (getD s (at + 1) 0) k b))
 
-      pub tag-taken : n < length row → at + 1 < length s → getD s (at + 1) 0 < k
-          → readTags lim s k r rs (take n row) at ≡ readTags lim s k r rs (take (n + 1) (set row n (getD s (at + 1) 0))) (at + 2)
-      tag-taken i l b =
+      pub tag-taken : at + 1 < length s → getD s (at + 1) 0 < k → readTags lim s k r rs w at ≡ readTags lim s k r rs (w ++ (one (getD s (at + 1) 0) ∷ [])) (at + 2)
+      tag-taken l b =
           let t = getD s (at + 1) 0 in
           let next : at + 1 + 1 ≡ at + 2 = omega arith in
           tag-counted
-          ∙ read-go lim s (pattern-tag k (withTags r (take n row)) rs) (at + 1) (command k (longer (withTags r (take n row)) t ∷ rs)) l (cc (lt-ltb t k b))
-          ∙ cc (take-suc-set row n t i, add-one n, next)
+          ∙ read-go lim s (pattern-tag k (withTags r w) rs) (at + 1) (command k (longer (withTags r w) (one t) ∷ rs)) l (cc (lt-ltb t k b))
+          ∙ cc next
+
+  -- 23
+  module _ (e : getD s at 0 ≡ 0x23) where
+    set-too-many : lim .pattern ≤ length w → readTags lim s k r rs w at ≡ refused 3 (byte at)
+    set-too-many l = read-stop lim s (command k (withTags r w ∷ rs)) at 3 h (cc (le-ltb (length w) (lim .pattern) l))
+
+    module _ (room : length w < lim .pattern) (bytes : (i : ℕ) → getD s i 0 < 0x100) where
+      abbrev first : ℕ
+      first = at + 1
+
+      -- with n of the six bytes read, and j after the next to come
+      set-goes : (n j : ℕ) → n + j ≡ 5 → first + n ≤ length s
+          → readTags lim s k r rs w at ≡ readFrom lim (set-byte k (withTags r w) rs j (numberAt s first n)) (first + n) (drop (first + n) s)
+      set-goes zero j f l =
+          let five : 5 ≡ j = omega arith in
+          let here : first ≡ first + 0 = omega arith in
+          read-go lim s (command k (withTags r w ∷ rs)) at (set-byte k (withTags r w) rs 5 0) h (cc (lt-ltb (length w) (lim .pattern) room))
+          ∙ ap₂ (λ (x y : ℕ). readFrom lim (set-byte k (withTags r w) rs x 0) y (drop y s)) five here
+      set-goes (suc n) j f l =
+          let next : first + n + 1 ≡ first + suc n = omega arith in
+          set-goes n (suc j) (omega arith) (omega arith)
+          ∙ read-go lim s (set-byte k (withTags r w) rs (suc j) (numberAt s first n)) (first + n) (set-byte k (withTags r w) rs j (numberAt s first (suc n))) (omega arith)
+          (cc (lt-ltb (getD s (first + n) 0) 0x100 (bytes (first + n))))
+          ∙ ap (λ (y : ℕ). readFrom lim (set-byte k (withTags r w) rs j (numberAt s first (suc n))) y (drop y s)) next
+
+      pub set-missing : length s ≤ at + 6 → readTags lim s k r rs w at ≡ refused 1 (byte (length s))
+      set-missing l =
+          let n = length s - first in
+          let end : first + n ≡ length s = omega arith in
+          set-goes n (5 - n) (omega arith) (omega arith)
+          ∙ read-end lim s (set-byte k (withTags r w) rs (5 - n) (numberAt s first n)) (first + n) end
+          ∙ ap (λ (x : ℕ). refused 1 (byte x)) end
+
+      module _ (l : at + 6 < length s) (fault : ℕ) (told : (next : Stage) → setRead k (numberAt s first 6) next ≡ andThen (faulted fault) (λ x. result next)) where
+        abbrev grown : Stage
+        grown = command k (longer (withTags r w) (any (numberAt s first 6)) ∷ rs)
+
+        last-byte : step lim (set-byte k (withTags r w) rs 0 (numberAt s first 5)) (getD s (first + 5) 0) ≡ andThen (faulted fault) (λ x. result grown)
+        last-byte = cc (lt-ltb (getD s (first + 5) 0) 0x100 (bytes (first + 5)), told grown)
+
+        pub set-fault : (fault ≡ 0 → ⊥) → readTags lim s k r rs w at ≡ refused fault (byte (at + 6))
+        set-fault d =
+            let end : first + 5 ≡ at + 6 = omega arith in
+            set-goes 5 0 refl (omega arith)
+            ∙ read-stop lim s (set-byte k (withTags r w) rs 0 (numberAt s first 5)) (first + 5) fault (omega arith) (last-byte ∙ by fault d)
+            ∙ ap (λ (x : ℕ). refused fault (byte x)) end
+          where
+            by : (n : ℕ) → (n ≡ 0 → ⊥) → andThen (faulted n) (λ x. result grown) ≡ refused n nothing
+            by zero d = absurd (d refl)
+            by (suc n) d = refl
+
+        pub set-taken : fault ≡ 0 → readTags lim s k r rs w at ≡ readTags lim s k r rs (w ++ (any (numberAt s first 6) ∷ [])) (at + 7)
+        set-taken z =
+            let next : first + 5 + 1 ≡ at + 7 = omega arith in
+            set-goes 5 0 refl (omega arith)
+            ∙ read-go lim s (set-byte k (withTags r w) rs 0 (numberAt s first 5)) (first + 5) grown (omega arith) (last-byte ∙ ap (λ (n : ℕ). andThen (faulted n) (λ x. result grown)) z)
+            ∙ cc next
+
+  -- 22 or 23
+  pub place-too-many : ((getD s at 0 ≡ 0x22 → ⊥) → getD s at 0 ≡ 0x23) → lim .pattern ≤ length w → readTags lim s k r rs w at ≡ refused 3 (byte at)
+  place-too-many e l = by (ℕ-discrete (getD s at 0) 0x22)
+    where
+      by : Dec (getD s at 0 ≡ 0x22) → readTags lim s k r rs w at ≡ refused 3 (byte at)
+      by (yes f) = tag-too-many f l
+      by (no d) = set-too-many (e d) l

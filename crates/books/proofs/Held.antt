@@ -2,7 +2,7 @@
 use Prim.Native.Nat.{ℕ, suc, _<_}
 use native.Mathlib.Decide.{ℕ-discrete}
 use native.Mathlib.Omega.{arith}
-use mathlib.Core.Path.{_≡_, _∙_, subst}
+use mathlib.Core.Path.{_≡_, sym, _∙_, subst}
 use mathlib.Core.List.{List, reverse-reverse}
 use lib.ListN.{length, length-reverse}
 use Rattle.limits.specs.Limits.{InRange}
@@ -13,9 +13,9 @@ use Rattle.answers.specs.declared.Refusal.{Refusal}
 use Rattle.cascades.specs.Rule.{ValidRule, ValidRules}
 use Rattle.books.specs.Read.{read}
 use Rattle.books.specs.Arrays.{Arrays, ruleAt, rulesDown, rulesOf, cascadeOf, RulesHeld}
-use Rattle.books.specs.Resume.{Whole}
-use Rattle.books.specs.declared.BookAnswer.{BookAnswer}
-use Rattle.books.specs.declared.BookAnswer.the-variants.{Book, Refused}
+use Rattle.books.specs.Resume.{ReadAs, Whole}
+use Rattle.books.specs.declared.Reading.{Reading}
+use Rattle.books.specs.declared.Reading.the-variants.{Book, Refused, Sets}
 use Rattle.books.proofs.Arrays.{down-length}
 use Rattle.books.proofs.Encode.{reads-exactly, valid-reverse}
 
@@ -29,13 +29,16 @@ down-valid l k a (suc m) h i n = at (ℕ-discrete i m) (down-valid l k a m (h .1
 pub rules-long : (a : Arrays) (m : ℕ) → length (rulesOf a m) ≡ m
 rules-long a m = length-reverse (rulesDown a m) ∙ down-length a m
 
-module _ {lim : Limits} (bytes : List ℕ) (a : Arrays) (r : BookAnswer) (w : Whole lim bytes a r) where
+module _ {lim : Limits} (bytes : List ℕ) (a : Arrays) (r : Reading) (w : Whole lim bytes a r) where
   pub was-refused : (x : Refusal) → r ≡ Refused x → read lim bytes ≡ refusal x
-  was-refused x f = cc (w .outcome)
+  was-refused x f = sym (subst (λ (y : Reading). ReadAs y a (read lim bytes)) f (w .outcome))
+
+  pub was-sets : r ≡ Sets → length (a .sets) ≡ 0
+  was-sets f = subst (λ (y : Reading). ReadAs y a (read lim bytes)) f (w .outcome)
 
   module _ (k m : ℕ) (f : r ≡ Book k m) where
     pub was-read : read lim bytes ≡ result (cascadeOf k a m)
-    was-read = cc (w .outcome)
+    was-read = sym (subst (λ (y : Reading). ReadAs y a (read lim bytes)) f (w .outcome))
 
     pub rules-held : InRange lim → RulesHeld (lim .pattern) k m a
     rules-held ranged =

@@ -5,8 +5,8 @@ use mathlib.Core.Path.{_≡_, sym, ap, _∙_}
 use mathlib.Core.List.{List, [], _∷_}
 use Rattle.limits.specs.Limits.{limitsOf}
 use Rattle.limits.specs.declared.Limits.{Limits}
-use Rattle.answers.specs.Outcome.{Outcome, result}
-use Rattle.answers.proofs.Outcome.{went}
+use Rattle.answers.specs.Outcome.{result}
+use Rattle.answers.proofs.Outcome.{same-result, went}
 use Rattle.cascades.specs.Rule.{Rule, ValidRule, ValidRules, Cascade}
 use Rattle.books.specs.Book.{Valid}
 use Rattle.books.specs.Read.{read}
@@ -18,8 +18,10 @@ rule-wider l m k r h v =
     record {
       short = omega (arith, v .short);
       pattern-below = v .pattern-below;
+      sets-below = v .sets-below;
       place-inside = v .place-inside;
       tag-below = v .tag-below;
+      sets-before = v .sets-before;
       tag-new = v .tag-new;
     }
 
@@ -32,13 +34,11 @@ valid-wider lim wide c pattern rules tags v =
     record {
       enough-tags = v .enough-tags;
       few-tags = omega (arith, v .few-tags);
+      six-bytes = v .six-bytes;
       few-rules = omega (arith, v .few-rules);
       rules-valid = rules-wider (lim .pattern) (wide .pattern) (c .tags) (c .rules) pattern (v .rules-valid);
       no-end-tag = v .no-end-tag;
     }
-
-same-result : (c d : Cascade) → _≡_ {A = Outcome Cascade} (result c) (result d) → c ≡ d
-same-result c d e = cc
 
 pub same-cascade : (lim other : Limits) (bs : List ℕ) (c d : Cascade) → read lim bs ≡ result c → read other bs ≡ result d → c ≡ d
 same-cascade lim other bs c d e f =

@@ -1,29 +1,32 @@
 -- Compiling rule by rule: where it begins, goes on and ends.
-use Prim.Native.Nat.{ℕ, zero, suc, _+_, _-_, _*_, _≤_, _<_}
+use Prim.Native.Nat.{ℕ, zero, suc, _+_, _-_, _*_, _^_, _≤_, _<_}
 use native.Mathlib.Omega.{arith}
 use native.Mathlib.Nat.{mul-le-mul-left}
 use native.Mathlib.Numerals.{add-one}
 use mathlib.Core.Path.{_≡_, refl, sym, ap, _∙_, subst}
 use mathlib.Core.List.{List, [], _∷_, _++_, reverse-cons, append-assoc, append-nil}
-use mathlib.Core.Bool.{false}
+use mathlib.Core.Bool.{Bool, true, false}
 use borrow.Author.Tests.{le-leb, lt-leb}
 use lib.ListN.{length}
 use Rattle.limits.specs.Work.{rule-states, rule-holds}
 use Rattle.limits.specs.declared.Limits.{Limits}
-use Rattle.limits.proofs.Work.{rule-fits, deep-enough, few-states}
+use Rattle.limits.proofs.Work.{rule-fits, deep-enough, states-most, few-states}
 use Rattle.answers.specs.Outcome.{Outcome, refused, rule, andThen}
 use Rattle.answers.specs.Slice.{fitting}
-use Rattle.cascades.specs.Rule.{Rule, ValidRule, ValidRules, Cascade, having, ending}
+use Rattle.cascades.specs.Rule.{Rule, hasSet, ValidRule, ValidRules, Cascade, having, ending, someHasSet}
 use Rattle.cascades.specs.Ending.{misused}
 use Rattle.cascades.specs.Spares.{Spares, Spare}
 use Rattle.cascades.proofs.Ending.{free-used, spares-used}
 use Rattle.cascades.specs.Rewrite.{behavior}
 use Rattle.books.specs.Arrays.{Arrays, ruleAt, rulesDown, rulesOf, cascadeOf}
 use Rattle.books.proofs.Held.{rules-long}
+use Rattle.books.proofs.Some.{not-one}
 use Rattle.endings.proofs.Ending.{rule-used}
 use Rattle.transducers.specs.Table.{Table}
 use Rattle.transducers.specs.Tabulate.{table}
+use Rattle.minimal.specs.OneRule.{oneRule}
 use Rattle.minimal.specs.TableOf.{identity, addRule, tableOf}
+use Rattle.minimal.proofs.OneRule.{rule-few}
 use Rattle.minimal.proofs.TableOf.{Good, good, tableOf-append}
 use Rattle.tables.specs.Bytes.{encode}
 use Rattle.compilation.specs.Compile.{withRules, compileCascade, built}
@@ -78,7 +81,7 @@ spare-append e [] r v h = (h, tt)
 spare-append e (s ∷ rs) r v h = (v .0, spare-append e rs r (v .1) h)
 
 -- 14 is given for no rule
-pub used : {lim : Limits} (g : Grid) (W : List ℕ) (ceiling end m : ℕ) (a : Arrays) → Compilable lim g W ceiling end m a → (i : ℕ) → i < m → misused end (ruleAt a i) ≡ false
+pub used : {lim : Limits} {states : ℕ} (g : Grid) (W : List ℕ) (ceiling end m : ℕ) (a : Arrays) → Compilable lim g W ceiling states end m a → (i : ℕ) → i < m → misused end (ruleAt a i) ≡ false
 used g W ceiling end m a ok = rule-used (g .tags) m end a (omega (arith, ok .readable .tags, ok .readable .ranged .few-tags)) (ok .readable .held) (ok .fits)
 
 -- one more rule in the definition
@@ -100,10 +103,10 @@ all-kept g W X Y some first rest =
     (kept-wider g (In-rows 0 (g .rows)) (In-rows 0 1) W X first (λ r c e p. (omega arith, omega (arith, p .1)))) rest
 
 -- after the identity's row
-pub begun : {lim : Limits} (g : Grid) (W X : List ℕ) (ceiling end m : ℕ) (a : Arrays) → Compilable lim g W ceiling end m a → length X ≡ length W → Compilable lim g X ceiling end m a
-begun g W X ceiling end m a ok long = record { sized = sized-kept g W X (ok .sized) long; rows = ok .rows; depth = ok .depth; readable = ok .readable; fits = ok .fits }
+pub begun : {lim : Limits} {states : ℕ} (g : Grid) (W X : List ℕ) (ceiling end m : ℕ) (a : Arrays) → Compilable lim g W ceiling states end m a → length X ≡ length W → Compilable lim g X ceiling states end m a
+begun g W X ceiling end m a ok long = record { sized = sized-kept g W X (ok .sized) long; states-are = ok .states-are; rows = ok .rows; depth = ok .depth; readable = ok .readable; fits = ok .fits }
 
-module _ {lim : Limits} (g : Grid) (W : List ℕ) (ceiling end m : ℕ) (a : Arrays) (ok : Compilable lim g W ceiling end m a) where
+module _ {lim : Limits} {states : ℕ} (g : Grid) (W : List ℕ) (ceiling end m : ℕ) (a : Arrays) (ok : Compilable lim g W ceiling states end m a) where
   abbrev k : ℕ
   k = g .tags
 
@@ -118,10 +121,22 @@ module _ {lim : Limits} (g : Grid) (W : List ℕ) (ceiling end m : ℕ) (a : Arr
   spare-upto : (i : ℕ) → i ≤ m → Spare end (rulesOf a i)
   spare-upto zero h = tt
   spare-upto (suc i) h =
-      subst (Spare end) (sym (rules-next a i)) (spare-append end (rulesOf a i) (ruleAt a i) (spare-upto i (omega arith)) (spares-used end (ruleAt a i) (used g W ceiling end m a ok i (omega arith))))
+      subst (Spare end) (sym (rules-next a i)) (spare-append end (rulesOf a i) (ruleAt a i) (spare-upto i (omega arith)) (spares-used l k end (ruleAt a i) (ok .readable .held .valid i (omega arith)) (used g W ceiling end m a ok i (omega arith))))
 
   good-upto : (i : ℕ) → i ≤ m → Good k (held-by lim i) (behavior (cut end k a i)) (tableOf (cut end k a i))
   good-upto i h = let e : held-by lim (length (rulesOf a i)) ≡ held-by lim i = ap (held-by lim) (rules-long a i) in rw (← e) (good l (cut end k a i) (valid-upto i h) (spare-upto i h))
+
+  -- each rule's transducer has no more states than there is room for
+  pub states-fit : (i : ℕ) → i < m → oneRule (ruleAt a i) .count ≤ states
+  states-fit i h = by (someHasSet (rulesOf a m)) refl
+    where
+      few : (hasSet (ruleAt a i) ≡ false → oneRule (ruleAt a i) .count ≤ suc (length (ruleAt a i .pattern))) × (oneRule (ruleAt a i) .count ≤ suc (2 ^ (l - 1)))
+      few = rule-few l k (ruleAt a i) (ok .readable .held .valid i h)
+
+      by : (b : Bool) → someHasSet (rulesOf a m) ≡ b → oneRule (ruleAt a i) .count ≤ states
+      by true e = omega (arith, few .1, ok .states-are ∙ ap (rule-states lim) e)
+      by false e =
+          omega (arith, few .0 (not-one hasSet someHasSet refl (λ r rs. refl) a m i e h), ok .readable .held .valid i h .short, ok .states-are ∙ ap (rule-states lim) e)
 
   -- no rule is done
   pub progress-start : Holds g W 0 (table k identity) → Progress g W W ceiling end m a 0 1
@@ -146,20 +161,20 @@ module _ {lim : Limits} (g : Grid) (W : List ℕ) (ceiling end m : ℕ) (a : Arr
     sized-now = sized-kept g W X (ok .sized) (p .kept .long)
 
     -- any valid rule can be added next
-    pub addable : i < m → (r : Rule) → ValidRule l k r → misused end r ≡ false → Addable g X n ceiling (rule-states lim) end r
-    addable h r v used =
+    pub addable : i < m → (r : Rule) → ValidRule l k r → misused end r ≡ false → oneRule r .count ≤ states → Addable g X n ceiling states end r
+    addable h r v used room =
         let t = good-upto i (omega arith) in
         record {
           sized = sized-now;
-          rows = omega (arith, ok .rows, rule-fits (rule-states lim) ceiling (ok .readable .some));
+          rows = omega (arith, ok .rows, rule-fits states ceiling (ok .readable .some));
           some = ok .readable .some;
-          small = omega (arith, few-states (rule-states lim) ceiling (omega (arith, ok .readable .ranged .short-pattern)) (ok .readable .most));
+          small = omega (arith, few-states states ceiling (omega (arith, ok .states-are, states-most lim (someHasSet (rulesOf a m)) (ok .readable .ranged))) (ok .readable .most));
           few = p .few;
           most = held-by lim i;
           makes = behavior (cut end k a i);
           stands = record { made = record { table = tableOf (cut end k a i); long = p .long; doing = t .doing; so = t .canonical }; holds = p .holds };
           longest = l;
-          states = omega arith;
+          states = room;
           deep = omega (arith, ok .depth, deep-enough (rule-holds lim) i m h);
           valid = v;
           free = free-used end r used;

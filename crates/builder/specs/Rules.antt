@@ -10,9 +10,9 @@ use Rattle.answers.specs.Outcome.{Outcome}
 use Rattle.answers.specs.Slice.{longOf, written}
 use Rattle.answers.specs.Answer.{compileOutcome}
 use Rattle.answers.specs.declared.CompileAnswer.{CompileAnswer}
-use Rattle.cascades.specs.Rule.{ending}
+use Rattle.cascades.specs.Rule.{ending, someHasSet}
 use Rattle.cascades.specs.Ending.{badEnd}
-use Rattle.books.specs.Arrays.{Arrays, cascadeOf, RulesHeld}
+use Rattle.books.specs.Arrays.{Arrays, rulesOf, cascadeOf, RulesHeld}
 use Rattle.workspace.specs.declared.Grid.{Grid}
 use Rattle.workspace.specs.Cells.{Sized}
 
@@ -30,9 +30,10 @@ pub record Readable (lim : Limits) (k ceiling m : ℕ) (a : Arrays) : Type 0 whe
   pub held : RulesHeld (lim .pattern) k m a
 
 -- and the rows have the size that document 02 gives them, and 14 is not given
-pub record Compilable (lim : Limits) (g : Grid) (W : List ℕ) (ceiling end m : ℕ) (a : Arrays) : Type 0 where
+pub record Compilable (lim : Limits) (g : Grid) (W : List ℕ) (ceiling states end m : ℕ) (a : Arrays) : Type 0 where
   pub sized : Sized g W
-  pub rows : g .rows ≡ work-rows (rule-states lim) ceiling
+  pub states-are : states ≡ rule-states lim (someHasSet (rulesOf a m))
+  pub rows : g .rows ≡ work-rows states ceiling
   pub depth : g .depth ≡ work-depth (rule-holds lim) m
   pub readable : Readable lim (g .tags) ceiling m a
   pub fits : badEnd (ending end (cascadeOf (g .tags) a m)) ≡ false

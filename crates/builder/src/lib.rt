@@ -32,7 +32,7 @@ fn finish(work: &[u16], g: Grid, n: usize, out: &mut [u8]) -> CompileAnswer
     CompileAnswer::Table(end)
 }
 
-// The table of the first m rules of the arrays: its bytes, 10 or 11.
+// The table of the first m rules of the arrays, whose transducers have at most so many states: its bytes, 10 or 11.
 pub fn build(
     work: &mut [u16],
     g: Grid,
@@ -42,20 +42,21 @@ pub fn build(
     rows: &[[u8; PATTERN]; RULES],
     lengths: &[usize; RULES],
     heads: &[[u8; HEAD]; RULES],
+    sets: &[[u64; PATTERN]],
     out: &mut [u8],
+    states: usize,
     lim: Limits,
 ) -> CompileAnswer
-    requires { ⌜ Compilable lim g (now work) ceiling end m (arrays rows lengths heads) ⌝ }
-    ensures gave { λ r. ⌜ Gave (built ceiling (length (now (out .entry))) (ending end (cascadeOf (g .tags) (arrays (rows .entry) (lengths .entry) (heads .entry)) m))) (now (out .entry)) (now (out .exit)) r ⌝ }
+    requires { ⌜ Compilable lim g (now work) ceiling states end m (arrays rows lengths heads (now sets)) ⌝ }
+    ensures gave { λ r. ⌜ Gave (built ceiling (length (now (out .entry))) (ending end (cascadeOf (g .tags) (arrays (rows .entry) (lengths .entry) (heads .entry) (now (sets .entry))) m))) (now (out .entry)) (now (out .exit)) r ⌝ }
     ensures kept { λ r. ⌜ Kept g (now (work .entry)) (now (work .exit)) (In-rows 0 (g .rows)) ⌝ }
 {
-    let states = lim.pattern + 1;
     identity::write_identity(work, g);
     let mut n = 1;
     let mut i = 0;
     while i < m {
-        let rule = reader::rule_at(rows, lengths, heads, i);
-        let count = addition::add_rule(work, g, n, ceiling, states, rule, end);
+        let rule = reader::rule_at(rows, lengths, heads, sets, i);
+        let count = addition::add_rule(work, g, n, ceiling, states, rule, sets, i, end);
         if ceiling < count {
             return CompileAnswer::Refused(Refusal::AtRule {
                 number: 10,

@@ -1,4 +1,5 @@
 -- Laws of rules and cascades.
-pub mod Leftmost
+pub mod Pattern
 pub mod Rewrite
 pub mod Ending
+pub mod Leftmost

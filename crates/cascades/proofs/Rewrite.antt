@@ -9,41 +9,12 @@ use mathlib.Core.List.{List, [], _∷_, _++_, append-assoc}
 use lib.Dec.{eqb}
 use lib.ListN.{length, drop, take, getD, set, length-drop, length-take, length-set, length-append, take-append-drop}
 use lib.Seq.{drop-cons, drop-length, drop-append-seam, drop-at, take-at, take-suc, length-take-le, set-append-left}
-use Rattle.words.specs.Word.{prefix}
 use Rattle.words.specs.Parts.{Begun}
-use Rattle.words.proofs.Word.{prefix-split, prefix-append, prefix-length, prefix-next, prefix-stops}
-use Rattle.cascades.specs.Rule.{Kind, once, everywhere, Rule, replaced}
+use Rattle.cascades.specs.Pattern.{Class, fits}
+use Rattle.cascades.specs.Rule.{Kind, once, everywhere, Rule}
 use Rattle.cascades.specs.Rewrite.{behind, rewrite, apply, applyAll}
-
--- ---- the test at a place
-
-pub prefix-short : (u w : List ℕ) → length w < length u → prefix u w ≡ false
-prefix-short [] w h = absurd (omega arith)
-prefix-short (a ∷ u) [] h = refl
-prefix-short (a ∷ u) (b ∷ w) h = test (eqb a b) (prefix-short u w (omega arith))
-  where
-    test : (t : Bool) → prefix u w ≡ false → elim t [ true ↦ prefix u w | false ↦ false ] ≡ false
-    test true e = e
-    test false e = refl
-
-module _ (u s : List ℕ) (i j : ℕ) (h : j < length u) (k : j + i < length s) where
-  pub same-next : getD s (j + i) 0 ≡ getD u j 0 → prefix (drop j u) (drop (j + i) s) ≡ prefix (drop (j + 1) u) (drop (j + 1 + i) s)
-  same-next e =
-      let n : j + i + 1 ≡ j + 1 + i = omega arith in
-      prefix-next u s j (j + i) h k (sym e) ∙ ap (λ (m : ℕ). prefix (drop (j + 1) u) (drop m s)) n
-
-  pub other-next : (getD s (j + i) 0 ≡ getD u j 0 → ⊥) → prefix (drop j u) (drop (j + i) s) ≡ false
-  other-next e = prefix-stops u s j (j + i) h k (λ q. e (sym q))
-
--- all tags passed
-pub all-same : (u s : List ℕ) (i j : ℕ) → j ≡ length u → true ≡ prefix (drop j u) (drop (j + i) s)
-all-same u s i j e = let d : drop j u ≡ [] = rw e (drop-length u) in cc
-
--- the first tag alone
-pub first-other : (u s : List ℕ) (i : ℕ) → 0 < length u → i < length s → (getD s i 0 ≡ getD u 0 0 → ⊥) → prefix u (drop i s) ≡ false
-first-other u s i h k e =
-    let n : 0 + i ≡ i = omega arith in
-    subst (λ (m : ℕ). prefix u (drop m s) ≡ false) n (other-next u s i 0 h (omega arith) (λ q. e (subst (λ (m : ℕ). getD s m 0 ≡ getD u 0 0) n q)))
+use Rattle.cascades.specs.Leftmost.{Match}
+use Rattle.cascades.proofs.Pattern.{fits-length, fits-short, fits-match, match-fits, match-length}
 
 -- ---- the equations
 
@@ -57,17 +28,17 @@ rewrite-nothing zero r = refl
 rewrite-nothing (suc n) r = refl
 
 module _ (r : Rule) where
-  abbrev u : List ℕ
+  abbrev u : List Class
   u = r .pattern
 
   -- where u does not begin at the front: the first tag, and again behind it
-  pub apply-other : (a : ℕ) (w : List ℕ) → prefix u (a ∷ w) ≡ false → apply r (a ∷ w) ≡ a ∷ apply r w
+  pub apply-other : (a : ℕ) (w : List ℕ) → fits u (a ∷ w) ≡ false → apply r (a ∷ w) ≡ a ∷ apply r w
   apply-other a w e = cc
 
   -- a word shorter than u is unchanged
   pub apply-short : (w : List ℕ) → length w < length u → apply r w ≡ w
   apply-short [] h = refl
-  apply-short (a ∷ w) h = apply-other a w (prefix-short u (a ∷ w) h) ∙ ap (λ (x : List ℕ). a ∷ x) (apply-short w (omega arith))
+  apply-short (a ∷ w) h = apply-other a w (fits-short u (a ∷ w) h) ∙ ap (λ (x : List ℕ). a ∷ x) (apply-short w (omega arith))
 
   module _ (some : 0 < length u) where
     -- the number does not count, if it is no less than the length
@@ -91,12 +62,12 @@ module _ (r : Rule) where
         step (suc i) (a ∷ w) h g rest =
             let x = drop (length u) (a ∷ w) in
             let l = length-drop (length u) (a ∷ w) in
-            by i a w (prefix u (a ∷ w)) (rest i w (omega arith) (omega arith)) (rest i x (omega arith) (omega arith))
+            by i a w (fits u (a ∷ w)) (rest i w (omega arith) (omega arith)) (rest i x (omega arith) (omega arith))
 
     -- where it does: the match with the new tag, and then the rest as it is, or again behind the match
-    pub apply-match : (w : List ℕ) → prefix u w ≡ true
+    pub apply-match : (w : List ℕ) → fits u w ≡ true
         → apply r w ≡ set (take (length u) w) (r .place) (r .tag) ++ behind (r .kind) (apply r) (drop (length u) w)
-    apply-match [] e = absurd (omega (arith, prefix-length u [] e))
+    apply-match [] e = absurd (omega (arith, fits-length u [] e))
     apply-match (a ∷ w) e =
         let x = drop (length u) (a ∷ w) in
         let n = length-drop (length u) (a ∷ w) in
@@ -105,11 +76,12 @@ module _ (r : Rule) where
         ∙ ap (λ (y : List ℕ). set (take (length u) (a ∷ w)) (r .place) (r .tag) ++ y)
         (behind-same (r .kind) (rewrite (length w) r) (apply r) x (enough (length w) (length x) x (omega arith) (omega arith)))
 
-    -- the same of u with more behind it
-    pub apply-front : (y : List ℕ) → apply r (u ++ y) ≡ replaced r ++ behind (r .kind) (apply r) y
-    apply-front y =
-        apply-match (u ++ y) (prefix-append u y)
-        ∙ ap₂ (λ (x z : List ℕ). set x (r .place) (r .tag) ++ behind (r .kind) (apply r) z) (take-at u y (length u) refl) (drop-append-seam u y)
+    -- the same of a match with more behind it
+    pub apply-front : (m y : List ℕ) → Match u m → apply r (m ++ y) ≡ set m (r .place) (r .tag) ++ behind (r .kind) (apply r) y
+    apply-front m y is =
+        let n : length u ≡ length m = sym (match-length u m is) in
+        apply-match (m ++ y) (match-fits u m y is)
+        ∙ ap₂ (λ (x z : List ℕ). set x (r .place) (r .tag) ++ behind (r .kind) (apply r) z) (take-at m y (length u) (sym n)) (drop-at m y (length u) (sym n))
 
 -- ---- a word that is rewritten where it stands, from the front
 
@@ -122,9 +94,9 @@ set-middle (a ∷ x) u y p t h =
 
 module _ (r : Rule) (s₀ s : List ℕ) (i : ℕ) (b : Begun (apply r) (apply r) s₀ s s i) where
   -- the pattern does not begin at i
-  pub begun-other : i < length s → prefix (r .pattern) (drop i s) ≡ false → Begun (apply r) (apply r) s₀ s s (i + 1)
+  pub begun-other : i < length s → fits (r .pattern) (drop i s) ≡ false → Begun (apply r) (apply r) s₀ s s (i + 1)
   begun-other h e =
-      let p : prefix (r .pattern) (getD s i 0 ∷ drop (suc i) s) ≡ false = subst (λ (x : List ℕ). prefix (r .pattern) x ≡ false) (drop-cons s i 0 h) e in
+      let p : fits (r .pattern) (getD s i 0 ∷ drop (suc i) s) ≡ false = subst (λ (x : List ℕ). fits (r .pattern) x ≡ false) (drop-cons s i 0 h) e in
       record {
         inside = omega arith;
         long = b .long;
@@ -146,33 +118,37 @@ module _ (r : Rule) (s₀ s : List ℕ) (i : ℕ) (b : Begun (apply r) (apply r)
       sym (b .cut ∙ ap (λ (x : List ℕ). take i s ++ x) (apply-short r (drop i s) (omega (arith, length-drop i s, b .inside))) ∙ take-append-drop i s)
 
   -- it begins at i, and the new tag is put there
-  pub begun-match : r .place < length (r .pattern) → prefix (r .pattern) (drop i s) ≡ true
+  pub begun-match : r .place < length (r .pattern) → fits (r .pattern) (drop i s) ≡ true
       → Begun (apply r) (behind (r .kind) (apply r)) s₀ (set s (i + r .place) (r .tag)) (set s (i + r .place) (r .tag)) (i + length (r .pattern))
   begun-match hp e =
       let u = r .pattern in
+      let m = take (length u) (drop i s) in
       let y = drop (length u) (drop i s) in
       let z = set s (i + r .place) (r .tag) in
-      let is : drop i s ≡ u ++ y = prefix-split u (drop i s) e in
-      let whole : s ≡ take i s ++ (u ++ y) = sym (take-append-drop i s) ∙ ap (λ (x : List ℕ). take i s ++ x) is in
+      let new = set m (r .place) (r .tag) in
+      let is : drop i s ≡ m ++ y = sym (take-append-drop (length u) (drop i s)) in
+      let here : Match u m = fits-match u (drop i s) e in
+      let long : length m ≡ length u = match-length u m here in
+      let whole : s ≡ take i s ++ (m ++ y) = sym (take-append-drop i s) ∙ ap (λ (x : List ℕ). take i s ++ x) is in
       let l : length (take i s) ≡ i = length-take-le i s (b .inside) in
       let size : length z ≡ length s = length-set s (i + r .place) (r .tag) in
-      let room : i + length u ≤ length s = omega (arith, prefix-length u (drop i s) e, length-drop i s, b .inside, hp) in
-      let written : z ≡ (take i s ++ replaced r) ++ y =
-      ap₂ (λ (x : List ℕ) (n : ℕ). set x (n + r .place) (r .tag)) whole (sym l) ∙ set-middle (take i s) u y (r .place) (r .tag) hp
-      ∙ sym (append-assoc (take i s) (replaced r) y)
+      let room : i + length u ≤ length s = omega (arith, fits-length u (drop i s) e, length-drop i s, b .inside, hp) in
+      let written : z ≡ (take i s ++ new) ++ y =
+      ap₂ (λ (x : List ℕ) (n : ℕ). set x (n + r .place) (r .tag)) whole (sym l) ∙ set-middle (take i s) m y (r .place) (r .tag) (omega arith)
+      ∙ sym (append-assoc (take i s) new y)
       in
-      let n : length (take i s ++ replaced r) ≡ i + length u = omega (arith, length-append (take i s) (replaced r), l, length-set u (r .place) (r .tag)) in
+      let n : length (take i s ++ new) ≡ i + length u = omega (arith, length-append (take i s) new, l, length-set m (r .place) (r .tag), long) in
       record {
         inside = omega arith;
         long = size ∙ b .long;
         beside = refl;
         cut =
             b .cut ∙ ap (λ (x : List ℕ). take i s ++ apply r x) is
-            ∙ ap (λ (x : List ℕ). take i s ++ x) (apply-front r (omega arith) y)
-            ∙ sym (append-assoc (take i s) (replaced r) (behind (r .kind) (apply r) y))
+            ∙ ap (λ (x : List ℕ). take i s ++ x) (apply-front r (omega arith) m y here)
+            ∙ sym (append-assoc (take i s) new (behind (r .kind) (apply r) y))
             ∙ sym (ap₂ (λ (v w : List ℕ). v ++ behind (r .kind) (apply r) w)
-            (ap (take (i + length u)) written ∙ take-at (take i s ++ replaced r) y (i + length u) n)
-            (ap (drop (i + length u)) written ∙ drop-at (take i s ++ replaced r) y (i + length u) n));
+            (ap (take (i + length u)) written ∙ take-at (take i s ++ new) y (i + length u) n)
+            (ap (drop (i + length u)) written ∙ drop-at (take i s ++ new) y (i + length u) n));
       }
 
 -- ---- cascades
@@ -184,7 +160,7 @@ applyAll-append (r ∷ rs) more w = applyAll-append rs more (apply r w)
 rewrite-long : (n : ℕ) (r : Rule) (w : List ℕ) → length (rewrite n r w) ≡ length w
 rewrite-long zero r w = refl
 rewrite-long (suc n) r [] = refl
-rewrite-long (suc n) r (a ∷ w) = test (prefix (r .pattern) (a ∷ w)) (rewrite-long n r w) (rest (r .kind) (rewrite-long n r (drop (length (r .pattern)) (a ∷ w))))
+rewrite-long (suc n) r (a ∷ w) = test (fits (r .pattern) (a ∷ w)) (rewrite-long n r w) (rest (r .kind) (rewrite-long n r (drop (length (r .pattern)) (a ∷ w))))
   where
     x : List ℕ
     x = drop (length (r .pattern)) (a ∷ w)

@@ -1,4 +1,5 @@
 -- Rules, cascades and what they make of a sentence.
+pub mod Pattern
 pub mod Rule
 pub mod Value
 pub mod Rewrite

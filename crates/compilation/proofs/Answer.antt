@@ -179,7 +179,7 @@ test-after lim book end n work r = by-ceiling (leb 1 n) (leb n most-states) refl
         → Tested lim book end n work (andThen (andThen o (fitted end)) (roomed lim n work))
     by-book (result c) x e s m = by-end c e s m (not (badEnd (ending end c))) refl
     by-book (refused j nothing) x e s m = absurd x
-    by-book (refused j (byte b)) x e s m = names-byte j b (x .0) (omega (arith, x .1)) (λ z. omega (arith, z, x .1))
+    by-book (refused j (byte b)) x e s m = names-byte j b (x .0 .0) (omega (arith, x .0 .1)) (λ z. omega (arith, z, x .0 .2 (omega arith)))
     by-book (refused j (rule i)) x e s m = absurd x
 
     by-ceiling : (a b : Bool) → leb 1 n ≡ a → leb n most-states ≡ b

@@ -1,6 +1,7 @@
 -- Limits (document 02, W8), computed on examples that were worked out by hand.
 use Prim.Native.Nat.{ℕ}
 use mathlib.Core.Path.{_≡_, refl}
+use mathlib.Core.Bool.{false}
 use mathlib.Core.List.{List, [], _∷_}
 use Rattle.limits.specs.Limits.{no-end, standard, limitsOf}
 use Rattle.limits.specs.Work.{work-entries}
@@ -32,7 +33,7 @@ many-tags = refl
 
 -- within the narrowest limits that allow it book A has the same table, in a work slice of 2 × (2 + 2) × 3 × (2 + 1) × ((2 − 1) × 1 + 8) entries
 -- and not in one that is shorter
-narrow : work-entries (limitsOf 2 1 2) 3 2 1 ≡ 648
+narrow : work-entries (limitsOf 2 1 2) false 3 2 1 ≡ 648
 narrow = refl
 
 narrow-table : compileAnswer (limitsOf 2 1 2) bookA no-end 3 648 43 ≡ result tableA

@@ -11,7 +11,7 @@ use Rattle.limits.specs.Within.{within}
 use Rattle.limits.specs.declared.Limits.{Limits}
 use Rattle.answers.specs.Outcome.{Outcome, result, refused, rule, andThen, provided}
 use Rattle.answers.specs.Slice.{fitting}
-use Rattle.cascades.specs.Rule.{Rule, Cascade}
+use Rattle.cascades.specs.Rule.{Rule, Cascade, someHasSet}
 use Rattle.books.specs.Ending.{readEnding}
 use Rattle.transducers.specs.Table.{Table}
 use Rattle.transducers.specs.Tabulate.{table}
@@ -20,7 +20,7 @@ use Rattle.tables.specs.Bytes.{encode}
 
 -- the entries that the work slice has to have for a ceiling and a cascade
 abbrev pub entries : Limits → ℕ → Cascade → ℕ
-entries lim n c = work-entries lim n (c .tags) (length (c .rules))
+entries lim n c = work-entries lim (someHasSet (c .rules)) n (c .tags) (length (c .rules))
 
 -- "9: work slice too short"
 abbrev pub roomed : Limits → ℕ → ℕ → Cascade → Outcome Cascade

@@ -69,7 +69,7 @@ multiplied (refused n q) p = false
 
 -- slices that are long enough for these books
 abbrev pub long-work : ℕ
-long-work = work-entries standard most-states most-tags most-rules
+long-work = work-entries standard false most-states most-tags most-rules
 
 abbrev pub long-out : ℕ
 long-out = 65536

@@ -14,20 +14,20 @@ use Rattle.limits.specs.Limits.{most-tags, most-states, most-rules, InRange, in
 use Rattle.limits.specs.Work.{rule-states, rule-holds, work-rows, work-depth, work-entries}
 use Rattle.limits.specs.declared.Limits.{Limits}
 use Rattle.limits.proofs.Range.{within-is, without-is}
-use Rattle.limits.proofs.Work.{few-rows, not-deep}
+use Rattle.limits.proofs.Work.{states-most, few-rows, not-deep}
 use Rattle.answers.specs.Outcome.{Place, Outcome, result, refused, nothing, andThen, provided}
 use Rattle.answers.specs.Slice.{longOf, written}
 use Rattle.answers.specs.Answer.{refusal}
 use Rattle.answers.specs.declared.Refusal.{Refusal}
 use Rattle.answers.specs.declared.Refusal.the-variants.{AtByte, AtRule, Bare}
-use Rattle.cascades.specs.Rule.{Cascade, ending}
+use Rattle.cascades.specs.Rule.{Cascade, ending, someHasSet}
 use Rattle.cascades.specs.Ending.{badEnd}
-use Rattle.books.specs.Arrays.{Arrays, cascadeOf}
+use Rattle.books.specs.Arrays.{Arrays, rulesOf, cascadeOf}
 use Rattle.books.specs.Read.{read}
 use Rattle.books.specs.Ending.{fitted, readEnding}
-use Rattle.books.specs.Resume.{Whole}
-use Rattle.books.specs.declared.BookAnswer.{BookAnswer}
-use Rattle.books.specs.declared.BookAnswer.the-variants.{Book}
+use Rattle.books.specs.Resume.{ReadAs, Whole}
+use Rattle.books.specs.declared.Reading.{Reading}
+use Rattle.books.specs.declared.Reading.the-variants.{Book, Sets}
 use Rattle.books.proofs.Encode.{reads-exactly}
 use Rattle.books.proofs.Held.{rules-long, was-refused, was-read, rules-held}
 use Rattle.compilation.specs.Compile.{entries, roomed, tested, built, compileAnswer}
@@ -43,31 +43,34 @@ use Rattle.answers.specs.declared.CompileAnswer.{CompileAnswer}
 
 -- ---- the numbers
 
-pub product-small : (a b c : ℕ) → a ≤ 5120 → b ≤ 49 → c ≤ 120 → (a * b ≤ 250880) × (a * b * c ≤ 30105600)
+pub product-small : (a b c : ℕ) → a ≤ 66560 → b ≤ 49 → c ≤ 120 → (a * b ≤ 3261440) × (a * b * c ≤ 391372800)
 product-small a b c ha hb hc =
-    let one : a * b ≤ 250880 = omega (arith, mul-le-mul-left a hb) in
+    let one : a * b ≤ 3261440 = omega (arith, mul-le-mul-left a hb) in
     (one, omega (arith, mul-le-mul-left (a * b) hc))
 
 -- the rows for limits in their ranges
-module _ (lim : Limits) (r : InRange lim) (n m : ℕ) (most : n ≤ most-states) (few : m ≤ most-rules) where
-  pub rows-few : work-rows (rule-states lim) n ≤ 5120
-  rows-few = few-rows (rule-states lim) n (omega (arith, r .short-pattern)) most
+module _ (lim : Limits) (r : InRange lim) (s n m : ℕ) (states : s ≤ 129) (most : n ≤ most-states) (few : m ≤ most-rules) where
+  pub rows-few : work-rows s n ≤ 66560
+  rows-few = few-rows s n states most
 
   pub depth-few : work-depth (rule-holds lim) m ≤ 120
   depth-few = not-deep (rule-holds lim) m (omega (arith, r .short-pattern)) few
 
 -- g is the rows for the limits
-module _ (lim : Limits) (k ceiling m : ℕ) (a : Arrays) (ok : Readable lim k ceiling m a) (g : Grid) (e : g ≡ gridOf lim k ceiling m) where
-  pub grid-small : (g .rows ≤ 5120) × (g .tags ≤ most-tags) × (g .depth ≤ 120)
+module _ (lim : Limits) (k ceiling m : ℕ) (a : Arrays) (ok : Readable lim k ceiling m a) (s : ℕ) (is : s ≡ rule-states lim (someHasSet (rulesOf a m))) (g : Grid) (e : g ≡ gridOf lim s k ceiling m) where
+  states-few : s ≤ 129
+  states-few = omega (arith, is, states-most lim (someHasSet (rulesOf a m)) (ok .ranged))
+
+  pub grid-small : (g .rows ≤ 66560) × (g .tags ≤ most-tags) × (g .depth ≤ 120)
   grid-small =
-      subst (λ (h : Grid). (h .rows ≤ 5120) × (h .tags ≤ most-tags) × (h .depth ≤ 120)) (sym e) (
-        rows-few lim (ok .ranged) ceiling m (ok .most) (ok .held .few),
+      subst (λ (h : Grid). (h .rows ≤ 66560) × (h .tags ≤ most-tags) × (h .depth ≤ 120)) (sym e) (
+        rows-few lim (ok .ranged) s ceiling m states-few (ok .most) (ok .held .few),
         omega (arith, ok .tags, ok .ranged .few-tags),
-        depth-few lim (ok .ranged) ceiling m (ok .most) (ok .held .few),
+        depth-few lim (ok .ranged) s ceiling m states-few (ok .most) (ok .held .few),
       )
 
   pub compilable : (end : ℕ) (W : List ℕ) → badEnd (ending end (cascadeOf k a m)) ≡ false → g .rows * (g .tags + 1) * g .depth ≤ length W
-      → Compilable lim g W ceiling end m a
+      → Compilable lim g W ceiling s end m a
   compilable end W fits room =
       let small = grid-small in
       record {
@@ -78,6 +81,7 @@ module _ (lim : Limits) (k ceiling m : ℕ) (a : Arrays) (ok : Readable lim k ce
               tags-small = omega (arith, small .1);
               depth-small = omega (arith, small .2);
             };
+        states-are = is;
         rows = ap (λ (h : Grid). h .rows) e;
         depth = ap (λ (h : Grid). h .depth) e;
         readable = subst (λ (h : Grid). Readable lim (h .tags) ceiling m a) (sym e) ok;
@@ -130,7 +134,7 @@ pub refused-ended : (lim : Limits) (t : Outcome Cascade) (n j : ℕ) (p : Place)
 refused-ended lim t n j p e r f W out = record { gave = record { answered = cc (e, f); wrote = cc (e) }; worked-is = cc (e) }
 
 -- the rules that have been read, with g for their rows in code and l for the end tag
-module _ (lim : Limits) (k ceiling end m : ℕ) (a : Arrays) (g : Grid) (e : g ≡ gridOf lim k ceiling m) where
+module _ (lim : Limits) (k ceiling end m : ℕ) (a : Arrays) (s : ℕ) (is : s ≡ rule-states lim (someHasSet (rulesOf a m))) (g : Grid) (e : g ≡ gridOf lim s k ceiling m) where
   abbrev pub read-with : ℕ → ℕ → Cascade
   read-with n i = ending i (cascadeOf n a m)
 
@@ -138,7 +142,9 @@ module _ (lim : Limits) (k ceiling end m : ℕ) (a : Arrays) (g : Grid) (e : g �
   all = g .rows * (g .tags + 1) * g .depth
 
   all-are : all ≡ entries lim ceiling (read-with k end)
-  all-are = ap (λ (h : Grid). h .rows * (h .tags + 1) * h .depth) e ∙ ap (work-entries lim ceiling k) (sym (rules-long a m))
+  all-are =
+      ap (λ (h : Grid). h .rows * (h .tags + 1) * h .depth) e ∙ ap (λ (x : ℕ). work-rows x ceiling * (k + 1) * work-depth (rule-holds lim) m) is
+      ∙ ap (work-entries lim (someHasSet (rulesOf a m)) ceiling k) (sym (rules-long a m))
 
   -- 14 is not given for the end tag in code
   pub with-end : badEnd (read-with k end) ≡ false → (l : ℕ) → l ≡ end → badEnd (read-with k l) ≡ false
@@ -209,8 +215,8 @@ module _ (lim : Limits) (ranged : InRange lim) (book : List ℕ) (end n work : �
     goes-on : tested lim book end n work ≡ andThen (andThen (read lim book) (fitted end)) (roomed lim n work)
     goes-on = tested-is true (from-one low true (le-leb n most-states high))
 
-    module _ (a : Arrays) (r : BookAnswer) (w : Whole lim book a r) where
-      pub book-refused : (x : Refusal) → r ≡ BookAnswer.Refused x → (q : CompileAnswer) → compileOutcome q ≡ refusal x
+    module _ (a : Arrays) (r : Reading) (w : Whole lim book a r) where
+      pub book-refused : (x : Refusal) → r ≡ Reading.Refused x → (q : CompileAnswer) → compileOutcome q ≡ refusal x
           → (W out : List ℕ) → Ended lim (tested lim book end n work) n W W out out q
       book-refused x f q g W out = by x (was-refused book a r w x f) g
         where
@@ -237,6 +243,17 @@ module _ (lim : Limits) (ranged : InRange lim) (book : List ℕ) (end n work : �
             ∙ sym goes-on
             in
             subst (λ (o : Outcome Cascade). Ended lim o n W X out after q) is h
+
+-- a set was met that there is no room for
+pub no-room : {lim : Limits} (book : List ℕ) (a : Arrays) (r : Reading) → Whole lim book a r → r ≡ Sets → length (a .sets) ≡ 0
+no-room {lim} book a r w e = subst (λ (x : Reading). ReadAs x a (read lim book)) e (w .outcome)
+
+-- and the call has begun again with the same slices
+pub again-ended : (lim : Limits) (book : List ℕ) (end n : ℕ) (U W X out before after : List ℕ) (r : CompileAnswer) → U ≡ W → out ≡ before
+    → Ended lim (tested lim book end n (length U)) n U X out after r → Ended lim (tested lim book end n (length W)) n W X before after r
+again-ended lim book end n U W X out before after r e f h =
+    subst (λ (x : List ℕ). Ended lim (tested lim book end n (length W)) n W X x after r) f
+    (subst (λ (x : List ℕ). Ended lim (tested lim book end n (length x)) n x X out after r) e h)
 
 -- 17
 pub out-of-range : (lim : Limits) (book : List ℕ) (end n work : ℕ) → inRange lim ≡ false → tested lim book end n work ≡ refused 17 nothing

@@ -55,7 +55,11 @@ fn put_fault(fault: Fault) {
 
 fn put_book(answer: BookAnswer) {
     match answer {
-        BookAnswer::Book { tags, rules } => {
+        BookAnswer::Book {
+            tags,
+            rules,
+            sets: _,
+        } => {
             put(b" tags ");
             put_number(tags as usize);
             put(b" rules ");

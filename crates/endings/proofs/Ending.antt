@@ -1,38 +1,42 @@
--- The tests of 14, tag by tag and rule by rule.
-use Prim.Native.Nat.{ℕ, zero, suc, _+_, _<_, _≤_}
+-- The tests of 14, place by place and rule by rule.
+use Prim.Native.Nat.{ℕ, zero, suc, _+_, _/_, _^_, _<_, _≤_}
 use native.Mathlib.Omega.{arith}
 use native.Mathlib.Decide.{ℕ-discrete, decLt}
-use native.Mathlib.Numerals.{add-one}
+use native.Mathlib.Nat.{div-eq-of-lt}
 use mathlib.Core.Path.{_≡_, refl, sym, ap, ap₂, _∙_}
 use mathlib.Core.Bool.{Bool, true, false, not, _&&_, _||_}
-use mathlib.Core.List.{List, [], _∷_, _++_, reverse-cons}
+use mathlib.Core.List.{List, [], _∷_}
 use borrow.Author.Tests.{eq-eqb, ne-eqb, le-leb, lt-leb}
 use lib.Dec.{eqb, leb}
-use lib.ListN.{length, take, drop, getD, length-drop}
-use lib.Seq.{length-take-le}
+use lib.ListN.{length, take, drop, getD, length-drop, List·getD-eq-default}
+use lib.Pow.{pow-mono}
+use lib.Seq.{length-take-le, getD-take}
 use Rattle.words.proofs.Word.{drop-step}
 use Rattle.cascades.specs.Rule.{Rule, Cascade, ending}
-use Rattle.cascades.specs.Value.{ruleOf, Formed}
+use Rattle.cascades.specs.Pattern.{Class, one, member, accepts, word, plain}
+use Rattle.cascades.specs.Value.{classOf, places, ruleOf, Formed}
 use Rattle.cascades.specs.declared.Rule.{Rule as Value}
 use Rattle.cascades.specs.Ending.{before, misused, someMisused, badEnd}
 use Rattle.cascades.proofs.Ending.{misused-outside}
 use Rattle.limits.specs.Limits.{most-rules, most-tags, no-end}
-use Rattle.books.specs.Arrays.{Arrays, Shaped, RulesHeld, placeAt, ruleAt, rulesDown, rulesOf, cascadeOf}
+use Rattle.books.specs.Arrays.{Arrays, Shaped, RulesHeld, placeAt, ruleAt, cascadeOf}
 use Rattle.books.proofs.Arrays.{pattern-long}
+use Rattle.books.proofs.Sets.{places-length}
+use Rattle.books.proofs.Some.{not-one}
 use Rattle.endings.specs.Usable.{Usable}
 
--- ---- a word's tags
+-- ---- the places of a pattern
 
-before-short : (e : ℕ) (u : List ℕ) → length u ≤ 1 → before e u ≡ false
+before-short : (e : ℕ) (u : List Class) → length u ≤ 1 → before e u ≡ false
 before-short e [] h = refl
 before-short e (a ∷ []) h = refl
 before-short e (a ∷ b ∷ u) h = absurd (omega arith)
 
-before-cons : (e a : ℕ) (u : List ℕ) → 0 < length u → before e (a ∷ u) ≡ (eqb a e || before e u)
-before-cons e a [] h = absurd (omega arith)
-before-cons e a (b ∷ u) h = refl
+before-cons : (e : ℕ) (c : Class) (u : List Class) → 0 < length u → before e (c ∷ u) ≡ (accepts c e || before e u)
+before-cons e c [] h = absurd (omega arith)
+before-cons e c (d ∷ u) h = refl
 
-module _ (e : ℕ) (u : List ℕ) where
+module _ (e : ℕ) (u : List Class) where
   pub before-empty : length u ≡ 0 → false ≡ before e u
   before-empty h = sym (before-short e u (omega arith))
 
@@ -40,88 +44,79 @@ module _ (e : ℕ) (u : List ℕ) where
     pub before-end : length u ≤ i + 1 → false ≡ before e u
     before-end h = sym (before-short e (drop i u) (omega (arith, length-drop i u))) ∙ same
 
-    step : i + 1 < length u → before e (drop i u) ≡ (eqb (getD u i 0) e || before e (drop (i + 1) u))
+    step : i + 1 < length u → before e (drop i u) ≡ (accepts (getD u i (one 0)) e || before e (drop (i + 1) u))
     step h =
-        ap (before e) (drop-step u i 0 (omega arith)) ∙ before-cons e (getD u i 0) (drop (i + 1) u) (omega (arith, length-drop (i + 1) u))
+        ap (before e) (drop-step u i (one 0) (omega arith)) ∙ before-cons e (getD u i (one 0)) (drop (i + 1) u) (omega (arith, length-drop (i + 1) u))
 
-    pub before-hit : i + 1 < length u → getD u i 0 ≡ e → true ≡ before e u
-    before-hit h f = ap (λ (b : Bool). b || before e (drop (i + 1) u)) (sym (eq-eqb (getD u i 0) e f)) ∙ sym (step h) ∙ same
+    pub before-hit : i + 1 < length u → accepts (getD u i (one 0)) e ≡ true → true ≡ before e u
+    before-hit h f = ap (λ (b : Bool). b || before e (drop (i + 1) u)) (sym f) ∙ sym (step h) ∙ same
 
-    pub before-miss : i + 1 < length u → (getD u i 0 ≡ e → ⊥) → before e (drop (i + 1) u) ≡ before e u
-    before-miss h n = ap (λ (b : Bool). b || before e (drop (i + 1) u)) (sym (ne-eqb (getD u i 0) e n)) ∙ sym (step h) ∙ same
+    pub before-miss : i + 1 < length u → accepts (getD u i (one 0)) e ≡ false → before e (drop (i + 1) u) ≡ before e u
+    before-miss h f = ap (λ (b : Bool). b || before e (drop (i + 1) u)) (sym f) ∙ sym (step h) ∙ same
 
--- ---- rules
+-- a place of rows
+plain-at : (w : List ℕ) (i : ℕ) → getD (plain w) i (one 0) ≡ one (getD w i 0)
+plain-at [] zero = refl
+plain-at [] (suc i) = refl
+plain-at (a ∷ w) zero = refl
+plain-at (a ∷ w) (suc i) = plain-at w i
 
-some-append : (e : ℕ) (rs : List Rule) (r : Rule) → someMisused e (rs ++ (r ∷ [])) ≡ (someMisused e rs || misused e r)
-some-append e [] r = by (misused e r)
+pub plain-hit : (w : List ℕ) (i e : ℕ) → getD w i 0 ≡ e → accepts (getD (plain w) i (one 0)) e ≡ true
+plain-hit w i e f = ap (λ (c : Class). accepts c e) (plain-at w i) ∙ eq-eqb (getD w i 0) e f
+
+pub plain-miss : (w : List ℕ) (i e : ℕ) → (getD w i 0 ≡ e → ⊥) → accepts (getD (plain w) i (one 0)) e ≡ false
+plain-miss w i e d = ap (λ (c : Class). accepts c e) (plain-at w i) ∙ ne-eqb (getD w i 0) e d
+
+pub places-at : (w ss : List ℕ) (i : ℕ) → i < length w → getD (places w ss) i (one 0) ≡ classOf (getD w i 0) (getD ss i 0)
+places-at [] ss i h = absurd (omega arith)
+places-at (a ∷ w) [] zero h = refl
+places-at (a ∷ w) [] (suc i) h = places-at w [] i (omega arith) ∙ ap (classOf (getD w i 0)) (none i)
   where
-    by : (b : Bool) → (b || false) ≡ (false || b)
-    by true = refl
-    by false = refl
-some-append e (q ∷ rs) r = ap (λ (b : Bool). misused e q || b) (some-append e rs r) ∙ sym (or-assoc (misused e q) (someMisused e rs) (misused e r))
+    none : (i : ℕ) → _≡_ {A = ℕ} (getD [] i 0) 0
+    none zero = refl
+    none (suc i) = refl
+places-at (a ∷ w) (s ∷ ss) zero h = refl
+places-at (a ∷ w) (s ∷ ss) (suc i) h = places-at w ss i (omega arith)
+
+-- where a row is, it is one of the rows
+pub row-there : (l : List (List ℕ)) (i : ℕ) → 0 < length (getD l i []) → i < length l
+row-there l i h = by (decLt i (length l))
   where
-    or-assoc : (a b c : Bool) → ((a || b) || c) ≡ (a || (b || c))
-    or-assoc true b c = refl
-    or-assoc false b c = refl
+    by : Dec (i < length l) → i < length l
+    by (yes k) = k
+    by (no k) = absurd (omega (arith, ap length (List·getD-eq-default l [] (let out : length l ≤ i = omega arith in out))))
 
-module _ (e : ℕ) (a : Arrays) where
-  one-more : (i : ℕ) → someMisused e (rulesOf a (suc i)) ≡ (someMisused e (rulesOf a i) || misused e (ruleAt a i))
-  one-more i = ap (someMisused e) (reverse-cons (ruleAt a i) (rulesDown a i)) ∙ some-append e (rulesOf a i) (ruleAt a i)
-
-  -- none so far, and not this one
-  pub none-more : (i : ℕ) (r : Rule) → r ≡ ruleAt a i → someMisused e (rulesOf a i) ≡ false → misused e r ≡ false → someMisused e (rulesOf a (i + 1)) ≡ false
-  none-more i r f h g =
-      ap (λ (n : ℕ). someMisused e (rulesOf a n)) (add-one i) ∙ one-more i ∙ by (someMisused e (rulesOf a i)) (misused e (ruleAt a i)) h (ap (misused e) (sym f) ∙ g)
-    where
-      by : (x y : Bool) → x ≡ false → y ≡ false → (x || y) ≡ false
-      by x y p q = rw (p, q) refl
-
-  -- this one, among m
-  pub one-misused : (m i : ℕ) (r : Rule) → r ≡ ruleAt a i → misused e r ≡ true → i < m → someMisused e (rulesOf a m) ≡ true
-  one-misused zero i r f g h = absurd (omega arith)
-  one-misused (suc m) i r f g h = one-more m ∙ by (ℕ-discrete i m) (one-misused m i r f g)
-    where
-      right : (x y : Bool) → y ≡ true → (x || y) ≡ true
-      right true y p = refl
-      right false y p = p
-
-      left : (x y : Bool) → x ≡ true → (x || y) ≡ true
-      left x y p = rw p refl
-
-      by : Dec (i ≡ m) → (i < m → someMisused e (rulesOf a m) ≡ true) → (someMisused e (rulesOf a m) || misused e (ruleAt a m)) ≡ true
-      by (yes p) rec = right (someMisused e (rulesOf a m)) (misused e (ruleAt a m)) (ap (λ (n : ℕ). misused e (ruleAt a n)) (sym p) ∙ ap (misused e) (sym f) ∙ g)
-      by (no p) rec = left (someMisused e (rulesOf a m)) (misused e (ruleAt a m)) (rec (omega arith))
-
-  -- none of m, and so not this one
-  pub none-misused : (m i : ℕ) → someMisused e (rulesOf a m) ≡ false → i < m → misused e (ruleAt a i) ≡ false
-  none-misused m i h l = by (misused e (ruleAt a i)) refl
-    where
-      by : (b : Bool) → misused e (ruleAt a i) ≡ b → b ≡ false
-      by true f = let z : _≡_ {A = ℕ} 0 1 = cc (h, one-misused m i (ruleAt a i) refl f l) in absurd (omega arith)
-      by false f = refl
+-- a tag that is no bit of 64
+pub member-high : (s e : ℕ) → s < 2 ^ 64 → 64 ≤ e → false ≡ member s e
+member-high s e h l = let none : s / 2 ^ e ≡ 0 = div-eq-of-lt (omega (arith, pow-mono {i = 64} {j = e} l)) in cc none
 
 -- ---- the three tests of a rule
 
 module _ (e : ℕ) (r : Rule) where
   pub misused-before : (b : Bool) → b ≡ before e (r .pattern) → b ≡ true → true ≡ misused e r
-  misused-before b f h = ap (λ (x : Bool). x || (eqb (getD (r .pattern) (r .place) 0) e || eqb (r .tag) e)) (sym h ∙ f)
+  misused-before b f h = ap (λ (x : Bool). x || (eqb (getD (word (r .pattern)) (r .place) 0) e || eqb (r .tag) e)) (sym h ∙ f)
 
   module _ (b : Bool) (f : b ≡ before e (r .pattern)) (h : b ≡ false) where
-    after-before : (eqb (getD (r .pattern) (r .place) 0) e || eqb (r .tag) e) ≡ misused e r
-    after-before = ap (λ (x : Bool). x || (eqb (getD (r .pattern) (r .place) 0) e || eqb (r .tag) e)) (sym h ∙ f)
+    after-before : (eqb (getD (word (r .pattern)) (r .place) 0) e || eqb (r .tag) e) ≡ misused e r
+    after-before = ap (λ (x : Bool). x || (eqb (getD (word (r .pattern)) (r .place) 0) e || eqb (r .tag) e)) (sym h ∙ f)
 
-    pub misused-old : getD (r .pattern) (r .place) 0 ≡ e → true ≡ misused e r
-    misused-old g = ap (λ (x : Bool). x || eqb (r .tag) e) (sym (eq-eqb (getD (r .pattern) (r .place) 0) e g)) ∙ after-before
+    pub misused-old : getD (word (r .pattern)) (r .place) 0 ≡ e → true ≡ misused e r
+    misused-old g = ap (λ (x : Bool). x || eqb (r .tag) e) (sym (eq-eqb (getD (word (r .pattern)) (r .place) 0) e g)) ∙ after-before
 
-    pub misused-new : (getD (r .pattern) (r .place) 0 ≡ e → ⊥) → eqb (r .tag) e ≡ misused e r
-    misused-new g = ap (λ (x : Bool). x || eqb (r .tag) e) (sym (ne-eqb (getD (r .pattern) (r .place) 0) e g)) ∙ after-before
+    pub misused-new : (getD (word (r .pattern)) (r .place) 0 ≡ e → ⊥) → eqb (r .tag) e ≡ misused e r
+    misused-new g = ap (λ (x : Bool). x || eqb (r .tag) e) (sym (ne-eqb (getD (word (r .pattern)) (r .place) 0) e g)) ∙ after-before
 
 -- a rule of the arrays has its place in its pattern
-pub rule-inside : (a : Arrays) (i : ℕ) (v : Value) → ruleOf v ≡ ruleAt a i → Formed v → Shaped a → i < most-rules → placeAt a i < getD (a .lengths) i 0 → v .place < v .length
-rule-inside a i v e f s h l =
+pub rule-inside : (a : Arrays) (i : ℕ) (v : Value) (ss : List ℕ) → ruleOf v ss ≡ ruleAt a i → Formed v ss → Shaped a → i < most-rules → placeAt a i < getD (a .lengths) i 0 → v .place < v .length
+rule-inside a i v ss e f s h l =
     let p : v .place ≡ placeAt a i = ap (λ (r : Rule). r .place) e in
-    let n : length (take (v .length) (v .row)) ≡ length (ruleAt a i .pattern) = ap (λ (r : Rule). length (r .pattern)) e in
-    omega (arith, p, n, length-take-le (v .length) (v .row) (omega (arith, f .row-long, f .length-short)), pattern-long a s i h)
+    let n : length (ruleOf v ss .pattern) ≡ length (ruleAt a i .pattern) = ap (λ (r : Rule). length (r .pattern)) e in
+    let row = take (v .length) (v .row) in
+    omega (arith, p, n, places-length row (take (v .sets) ss), length-take-le (v .length) (v .row) (omega (arith, f .row-long, f .length-short)), pattern-long a s i h)
+
+-- the tag at the place stands in its row
+pub tag-at : (v : Value) (ss : List ℕ) → Formed v ss → v .place < v .length → getD (word (ruleOf v ss .pattern)) (v .place) 0 ≡ getD (v .row) (v .place) 0
+tag-at v ss f h = ap (λ (w : List ℕ). getD w (v .place) 0) (f .word-is) ∙ getD-take (v .length) (v .row) (v .place) 0 h
 
 -- ---- the three tests of a book
 
@@ -145,6 +140,7 @@ usable k m a h =
       shaped = h .shaped;
       few = h .few;
       inside = λ i l. omega (arith, h .valid i l .place-inside, pattern-long a (h .shaped) i (omega (arith, h .few)));
+      plain-from = λ i l. h .valid i l .sets-before;
       new = λ i l. h .valid i l .tag-new;
     }
 
@@ -155,5 +151,5 @@ rule-used {l} k m e a few held fits i h = by (ℕ-discrete e no-end) (decLt e k)
   where
     by : Dec (e ≡ no-end) → Dec (e < k) → misused e (ruleAt a i) ≡ false
     by (yes f) d = misused-outside l k e (omega arith) (ruleAt a i) (held .valid i h)
-    by (no n) (yes b) = none-misused e a m i (bad-inside (ending e (cascadeOf k a m)) n b ∙ fits) h
+    by (no n) (yes b) = not-one (misused e) (someMisused e) refl (λ r rs. refl) a m i (bad-inside (ending e (cascadeOf k a m)) n b ∙ fits) h
     by (no n) (no b) = let z : _≡_ {A = ℕ} 0 1 = cc (bad-outside (ending e (cascadeOf k a m)) n (omega arith), fits) in absurd (omega arith)

@@ -5,6 +5,7 @@ use places::WIDE;
 use words::lesser;
 ghost use Prim.Native.Nat.{_+_, _≤_, _<_};
 ghost use lib.ListN.{length, drop};
+ghost use Rattle.words.specs.Word.{prefix};
 ghost use Rattle.places.specs.Places.{Places, Free, FoundWithin};
 ghost use Rattle.leftmost.specs.Leftmost.{Found};
 
@@ -82,7 +83,7 @@ fn search(s: &[u8], from: usize, to: usize, u: &[u8]) -> Occurrence
 // The least place at which u begins in the part of s from `from` on, counted in the part; or nowhere.
 pub fn find(s: &[u8], from: usize, u: &[u8]) -> Occurrence
     requires { ⌜ (0 < length (now u)) × (from ≤ length (now s)) ⌝ }
-    ensures { λ r. ⌜ Found (now (u .entry)) (drop from (now (s .entry))) r ⌝ }
+    ensures { λ r. ⌜ Found (prefix (now (u .entry))) (drop from (now (s .entry))) r ⌝ }
 {
     let n = u.len();
     if s.len() - from < n {

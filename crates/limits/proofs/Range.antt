@@ -4,7 +4,7 @@ use native.Mathlib.Omega.{arith}
 use native.Mathlib.Nat.{mul-le-mul-right}
 use mathlib.Core.Path.{_≡_, refl, ap}
 use mathlib.Core.Bool.{Bool, true, false, not, _&&_}
-use borrow.Author.Tests.{leb-true, le-leb, lt-leb}
+use borrow.Author.Tests.{leb-true, le-leb, lt-leb, not-true, not-false}
 use lib.Dec.{leb}
 use Rattle.answers.specs.Outcome.{Outcome, result, refused, nothing, provided}
 use Rattle.limits.specs.Limits.{longest-pattern, most-rules, fewest-tags, most-tags, InRange, between, inRange, standard, most-held}
@@ -24,14 +24,6 @@ below-least least most n h = cc (lt-leb least n h)
 
 pub above-least : (least most n : ℕ) → least ≤ n → leb n most ≡ between least most n
 above-least least most n h = cc (le-leb least n h)
-
-not-true : (b : Bool) → not b ≡ true → b ≡ false
-not-true true e = let z : _≡_ {A = ℕ} 0 1 = cc in absurd (omega arith)
-not-true false e = refl
-
-not-false : (b : Bool) → not b ≡ false → b ≡ true
-not-false true e = refl
-not-false false e = let z : _≡_ {A = ℕ} 0 1 = cc in absurd (omega arith)
 
 -- the test, one limit after the other
 module _ (lim : Limits) (p r : Bool) (pattern-is : p ≡ between 1 longest-pattern (lim .pattern)) (rules-is : r ≡ between 1 most-rules (lim .rules)) where

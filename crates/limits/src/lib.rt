@@ -1,6 +1,7 @@
 // The bounds of document 01, and the limits that a call is given (document 02, W8). specs/Limits.antt has them for definitions.
 ghost use mathlib.Core.Path.{_≡_};
 ghost use Rattle.limits.specs.Limits.{limitsOf, InRange, between, inRange, most-held};
+ghost use Rattle.limits.specs.Work.{rule-states};
 
 // The most tags in a sentence that is run.
 pub const SENTENCE: usize = 65535;
@@ -66,6 +67,17 @@ pub fn most_held(lim: Limits) -> usize
     ensures { λ r. ⌜ r ≡ most-held lim ⌝ }
 {
     (lim.pattern - 1) * RULES
+}
+
+// The most states of a rule's transducer, in a book with a set or without.
+pub fn rule_states(lim: Limits, sets: bool) -> usize
+    requires { ⌜ InRange lim ⌝ }
+    ensures { λ r. ⌜ r ≡ rule-states lim sets ⌝ }
+{
+    if sets {
+        return (1 << (lim.pattern - 1)) + 1;
+    }
+    lim.pattern + 1
 }
 
 // The limits from a host's numbers.

@@ -1,7 +1,7 @@
 -- Where a step of a rule's transducer leads. A state is how many tags of the pattern are matched.
 use Prim.Native.Nat.{ℕ, _<_}
 use mathlib.Core.Path.{_≡_}
-use mathlib.Core.Bool.{true, false, _||_}
+use mathlib.Core.Bool.{true, false}
 use mathlib.Core.List.{List}
 use lib.Dec.{eqb}
 use lib.ListN.{length}
@@ -19,9 +19,12 @@ use Rattle.workspace.specs.Cells.{at}
 abbrev pub goes : List ℕ → ℕ → ℕ → ℕ
 goes u j a = moves (length u) (borders once u) j a
 
--- the start after an end tag, and where there is no state for what is matched
+-- the start where there is no state for what is matched, and after an end tag
+abbrev pub turns : ℕ → ℕ → ℕ
+turns count next = elim (eqb next count) [ true ↦ 0 | false ↦ next ]
+
 abbrev pub restarts : ℕ → ℕ → ℕ → ℕ → ℕ
-restarts count e a next = elim (eqb a e || eqb next count) [ true ↦ 0 | false ↦ next ]
+restarts count e a next = elim (eqb a e) [ true ↦ 0 | false ↦ turns count next ]
 
 -- where some tags of u are matched, but not all, the row `back` has the next states of their longest border
 pub record Behind (g : Grid) (W : List ℕ) (back : ℕ) (u : List ℕ) (j : ℕ) : Type 0 where

@@ -1,4 +1,4 @@
-// The states of a rule's transducer as numbers, and where a step leads from each, in time O(1).
+// The states of the transducer of a rule without sets as numbers, and where a step leads from each, in time O(1).
 // From 002, definition 2, after Simon's string matching automaton: the states are the prefixes of the pattern, here by their lengths.
 use cascades::Rule;
 use words::wide;
@@ -8,7 +8,8 @@ use workspace::get;
 ghost use mathlib.Core.Path.{_≡_};
 ghost use Prim.Native.Nat.{_≤_, _<_};
 ghost use lib.ListN.{length};
-ghost use Rattle.cascades.specs.Value.{ruleOf, Formed};
+ghost use Rattle.limits.specs.Limits.{longest-pattern};
+ghost use Rattle.cascades.specs.Value.{kindOf};
 ghost use Rattle.minimal.specs.OneRule.{states};
 ghost use Rattle.workspace.specs.Cells.{Sized};
 ghost use Rattle.matcher.specs.Next.{goes, restarts, Behind};
@@ -44,8 +45,8 @@ pub fn restart(next: usize, a: usize, end: usize, count: usize) -> usize
 
 // How many states the rule's transducer has: one behind a whole match, unless it begins again there.
 pub fn count_states(rule: Rule) -> usize
-    requires { ⌜ Formed rule ⌝ }
-    ensures { λ count. ⌜ count ≡ states (ruleOf rule .kind) (rule .length) ⌝ }
+    requires { ⌜ rule .length ≤ longest-pattern ⌝ }
+    ensures { λ count. ⌜ count ≡ states (kindOf (rule .everywhere)) (rule .length) ⌝ }
 {
     if rule.everywhere {
         return rule.length;

@@ -1,7 +1,7 @@
 -- The transducer of a matcher does what the rule does, whatever the matcher keeps, if it keeps the longest end that matches.
 use Prim.Native.Nat.{ℕ, zero, suc, _+_, _-_, _≤_, _<_}
 use native.Mathlib.Omega.{arith}
-use native.Mathlib.Decide.{ℕ-discrete}
+use native.Mathlib.Decide.{ℕ-discrete, decLt}
 use mathlib.Core.Path.{_≡_, refl, sym, ap, ap₂, _∙_, subst}
 use mathlib.Core.List.{List, [], _∷_, _++_, append-assoc, append-nil}
 use mathlib.Core.Bool.{Bool, true, false, false≢true}
@@ -11,6 +11,8 @@ use lib.Dec.{eqb}
 use borrow.Author.Tests.{eq-eqb, ne-eqb}
 use Rattle.words.specs.Word.{Below}
 use Rattle.words.proofs.Word.{below-append, below-take, below-drop, below-set}
+use Rattle.cascades.specs.Rule.{Kind, once, everywhere}
+use Rattle.cascades.specs.Rewrite.{behind}
 use Rattle.transducers.specs.Transducer.{Shape, puts}
 use Rattle.transducers.specs.Canonical.{Sound, Held}
 use Rattle.minimal.specs.Matcher.{Matcher, held, said, moves, matching}
@@ -36,7 +38,7 @@ module _ (front : List ℕ → Bool) where
       by true e = refl
       by false e = ap {B = List ℕ} (λ l. b ∷ l) e
 
-  ending-front : front [] ≡ true → (t : List ℕ) → front (ending front t) ≡ true
+  pub ending-front : front [] ≡ true → (t : List ℕ) → front (ending front t) ≡ true
   ending-front n [] = n
   ending-front n (b ∷ t) = by (front (b ∷ t)) refl (ending-front n t)
     where
@@ -44,7 +46,7 @@ module _ (front : List ℕ → Bool) where
       by true e f = e
       by false e f = f
 
-  ending-le : (t : List ℕ) → length (ending front t) ≤ length t
+  pub ending-le : (t : List ℕ) → length (ending front t) ≤ length t
   ending-le t = omega (arith, simp length-append at (ap length (ending-split t)))
 
   ending-whole : (t : List ℕ) → length (ending front t) ≡ length t → ending front t ≡ t
@@ -66,14 +68,19 @@ pub record Fronts (row : List ℕ) (place : ℕ) (front : List ℕ → Bool) : T
   pub few : (z : List ℕ) → front z ≡ true → length z ≤ length row
   pub plain : (z : List ℕ) → front z ≡ true → drop place z ≡ drop place (take (length z) row)
 
--- R gives the leftmost match the new tag, and G is what becomes of the rest after it
-pub record Rewrites (row : List ℕ) (place tag : ℕ) (front : List ℕ → Bool) (R G : List ℕ → List ℕ) : Type 0 where
+-- R gives the leftmost match the new tag, and the rest is treated by the rule's kind
+pub record Rewrites (kind : Kind) (row : List ℕ) (place tag : ℕ) (front : List ℕ → Bool) (R : List ℕ → List ℕ) : Type 0 where
   pub none : R [] ≡ []
   pub other : (a : ℕ) (w : List ℕ) → ((m v : List ℕ) → front m ≡ true → length m ≡ length row → a ∷ w ≡ m ++ v → ⊥) → R (a ∷ w) ≡ a ∷ R w
-  pub match : (m v : List ℕ) → front m ≡ true → length m ≡ length row → R (m ++ v) ≡ set m place tag ++ G v
+  pub match : (m v : List ℕ) → front m ≡ true → length m ≡ length row → R (m ++ v) ≡ set m place tag ++ behind kind R v
+
+-- after a match the matcher stays there, or begins again
+abbrev pub Fires : Kind → ℕ → Matcher → Type 0
+Fires once n M = M .longest (M .fired) ≡ n
+Fires everywhere n M = M .fired ≡ 0
 
 -- `code z` is the matcher's state after z
-pub record Matches (row : List ℕ) (place : ℕ) (front : List ℕ → Bool) (M : Matcher) (code : List ℕ → ℕ) : Type 0 where
+pub record Matches (kind : Kind) (row : List ℕ) (front : List ℕ → Bool) (M : Matcher) (code : List ℕ → ℕ) : Type 0 where
   pub start : code [] ≡ 0
   pub codes : (z : List ℕ) → front z ≡ true → length z < length row → M .longest (code z) ≡ length z
   pub steps : (z : List ℕ) (a : ℕ) → front z ≡ true → length z < length row
@@ -85,11 +92,11 @@ pub record Matches (row : List ℕ) (place : ℕ) (front : List ℕ → Bool) (M
   pub one-more : (s a : ℕ) → s < M .states → M .longest s < length row → (M .longest (M .step s a) ≤ suc (M .longest s)) × (M .longest (M .step s a) ≤ length row)
   pub step-below : (s a : ℕ) → s < M .states → M .longest s < length row → M .longest (M .step s a) < length row → M .step s a < M .states
   pub fired-below : M .fired < M .states
-  pub fired-empty : held row place (M .longest (M .fired)) ≡ []
+  pub fires : Fires kind (length row) M
 
 -- ---- the rewriting passes over what matches nowhere
 
-module _ (row : List ℕ) (place tag : ℕ) (front : List ℕ → Bool) (F : Fronts row place front) (R G : List ℕ → List ℕ) (W : Rewrites row place tag front R G) where
+module _ (kind : Kind) (row : List ℕ) (place tag : ℕ) (front : List ℕ → Bool) (F : Fronts row place front) (R : List ℕ → List ℕ) (W : Rewrites kind row place tag front R) where
   -- a word shorter than the pattern is unchanged
   rewrites-short : (w : List ℕ) → length w < length row → R w ≡ w
   rewrites-short [] h = W .none
@@ -139,6 +146,9 @@ module _ (row : List ℕ) (place tag : ℕ) where
   pub held-all : (j : ℕ) → j ≡ n → held row place j ≡ []
   held-all j e = cc (eq-eqb j n e)
 
+  held-none : place < n → held row place 0 ≡ []
+  held-none inside = held-in 0 (omega arith) ∙ drop-of-length-le [] {i = place} (omega arith)
+
   pub held-length : (j : ℕ) → j < n → length (held row place j) ≡ j - place
   held-length j h = omega (arith, ap length (held-in j h), length-drop place (take j row), length-take-le j row (omega arith))
 
@@ -162,8 +172,35 @@ module _ (row : List ℕ) (place tag : ℕ) where
     pub moves-on : (s a : ℕ) → M .longest s < n → M .longest (M .step s a) < n → moves n M s a ≡ M .step s a
     moves-on s a h l = cc (ne-eqb (M .longest s) n (λ g. omega arith), ne-eqb (M .longest (M .step s a)) n (λ g. omega arith))
 
-module _ (row : List ℕ) (place tag : ℕ) (front : List ℕ → Bool) (F : Fronts row place front) (R G : List ℕ → List ℕ) (W : Rewrites row place tag front R G)
-    (M : Matcher) (code : List ℕ → ℕ) (C : Matches row place front M code) where
+    -- where all is matched the rest is put out as it is
+    pub puts-end : (s : ℕ) → M .longest s ≡ n → (x : List ℕ) → puts (matching row place tag M) s x ≡ x
+    puts-end s e [] = held-all (M .longest s) e
+    puts-end s e (a ∷ x) =
+        ap₂ (λ (o w : List ℕ). o ++ w) (said-after (M .longest s) a (M .longest (M .step s a)) e)
+        (ap (λ (q : ℕ). puts (matching row place tag M) q x) (moves-after s a e) ∙ puts-end s e x)
+
+    -- after a match nothing is held
+    module _ (inside : place < n) (low : M .longest 0 ≡ 0) where
+      fired-empty : (kind : Kind) → Fires kind n M → held row place (M .longest (M .fired)) ≡ []
+      fired-empty once e = held-all (M .longest (M .fired)) e
+      fired-empty everywhere e = ap (λ (s : ℕ). held row place (M .longest s)) e ∙ ap (held row place) low ∙ held-none inside
+
+      -- nor after a tag that completes the pattern or stands in no match
+      pub moves-quiet : (kind : Kind) → Fires kind n M → (s a : ℕ) → M .longest s ≤ n
+          → (M .longest s < n → (M .longest (M .step s a) ≤ n) × (M .longest (M .step s a) < n → M .longest (M .step s a) ≡ 0))
+          → held row place (M .longest (moves n M s a)) ≡ []
+      moves-quiet kind f s a le step = by (decLt (M .longest s) n) (decLt (M .longest (M .step s a)) n)
+        where
+          at : (i j : ℕ) → i ≡ j → held row place (M .longest j) ≡ [] → held row place (M .longest i) ≡ []
+          at i j e h = ap (λ (q : ℕ). held row place (M .longest q)) e ∙ h
+
+          by : Dec (M .longest s < n) → Dec (M .longest (M .step s a) < n) → held row place (M .longest (moves n M s a)) ≡ []
+          by (no b) d = at (moves n M s a) s (moves-after s a (omega arith)) (held-all (M .longest s) (omega arith))
+          by (yes b) (no d) = at (moves n M s a) (M .fired) (moves-match s a b (omega (arith, step b .0))) (fired-empty kind f)
+          by (yes b) (yes d) = at (moves n M s a) (M .step s a) (moves-on s a b d) (ap (held row place) (step b .1 d) ∙ held-none inside)
+
+module _ (kind : Kind) (row : List ℕ) (place tag : ℕ) (front : List ℕ → Bool) (F : Fronts row place front) (R : List ℕ → List ℕ) (W : Rewrites kind row place tag front R)
+    (M : Matcher) (code : List ℕ → ℕ) (C : Matches kind row front M code) where
   abbrev pub Before : List ℕ → Type 0
   Before x = (z : List ℕ) → front z ≡ true → length z < length row → take place z ++ puts (matching row place tag M) (code z) x ≡ R (z ++ x)
 
@@ -194,64 +231,74 @@ module _ (row : List ℕ) (place tag : ℕ) (front : List ℕ → Bool) (F : Fro
       sym (take-append-drop place (set m place tag))
       ∙ ap₂ (λ (x y : List ℕ). x ++ y) (take-set-le place m place tag (omega arith)) (drop-set place m row tag l (F .plain m f ∙ ap (λ (i : ℕ). drop place (take i row)) l ∙ ap (drop place) (take-all (length row) row (omega arith))))
 
-  module _ (after : (x : List ℕ) → Before x → puts (matching row place tag M) (M .fired) x ≡ G x) where
-    -- what was put out before and is still put out is what the rule makes of what was matched and is read
-    pub does-before : (x : List ℕ) → Before x
-    does-before [] z f h =
-        ap (λ (j : ℕ). take place z ++ held row place j) (C .codes z f h)
-        ∙ ap (λ (w : List ℕ). take place z ++ w) (held-in row place tag (length z) h ∙ sym (F .plain z f))
-        ∙ take-append-drop place z
-        ∙ sym (rewrites-short row place tag front F R G W z h)
-        ∙ ap R (sym (append-nil z))
-    does-before (a ∷ x) z f h = by (ℕ-discrete (length y) (length row)) (does-before x) ∙ ap R (append-assoc z (a ∷ []) x)
-      where
-        S : Shape
-        S = matching row place tag M
+  -- the rest after a match, by the rule's kind
+  after : (x : List ℕ) → Before x → puts (matching row place tag M) (M .fired) x ≡ behind kind R x
+  after x before = by kind (C .fires)
+    where
+      by : (i : Kind) → Fires i (length row) M → puts (matching row place tag M) (M .fired) x ≡ behind i R x
+      by once f = puts-end row place tag M (M .fired) f x
+      by everywhere f =
+          ap (λ (s : ℕ). puts (matching row place tag M) s x) (f ∙ sym (C .start))
+          ∙ ap (λ (o : List ℕ). o ++ puts (matching row place tag M) (code []) x) (sym (take-all place [] (omega arith)))
+          ∙ before [] (F .none) (omega (arith, F .inside))
 
-        t : List ℕ
-        t = z ++ (a ∷ [])
+  -- what was put out before and is still put out is what the rule makes of what was matched and is read
+  pub does-before : (x : List ℕ) → Before x
+  does-before [] z f h =
+      ap (λ (j : ℕ). take place z ++ held row place j) (C .codes z f h)
+      ∙ ap (λ (w : List ℕ). take place z ++ w) (held-in row place tag (length z) h ∙ sym (F .plain z f))
+      ∙ take-append-drop place z
+      ∙ sym (rewrites-short kind row place tag front F R W z h)
+      ∙ ap R (sym (append-nil z))
+  does-before (a ∷ x) z f h = by (ℕ-discrete (length y) (length row)) (does-before x) ∙ ap R (append-assoc z (a ∷ []) x)
+    where
+      S : Shape
+      S = matching row place tag M
 
-        y : List ℕ
-        y = ending front t
+      t : List ℕ
+      t = z ++ (a ∷ [])
 
-        y-front : front y ≡ true
-        y-front = ending-front front (F .none) t
+      y : List ℕ
+      y = ending front t
 
-        t-length : length t ≡ suc (length z)
-        t-length = length-append z (a ∷ []) ∙ (omega arith)
+      y-front : front y ≡ true
+      y-front = ending-front front (F .none) t
 
-        said-is : said row place tag (M .longest (code z)) a (M .longest (M .step (code z) a)) ≡ said row place tag (length z) a (length y)
-        said-is = ap₂ (λ (j i : ℕ). said row place tag j a i) (C .codes z f h) (C .steps z a f h .0)
+      t-length : length t ≡ suc (length z)
+      t-length = length-append z (a ∷ []) ∙ (omega arith)
 
-        by : Dec (length y ≡ length row) → Before x
-            → take place z ++ (said row place tag (M .longest (code z)) a (M .longest (M .step (code z) a)) ++ puts S (moves (length row) M (code z) a) x) ≡ R (t ++ x)
-        by (yes e) rest =
-            let whole : y ≡ t = ending-whole front t (omega (arith, ending-le front t, t-length)) in
-            let t-front : front t ≡ true = subst (λ (w : List ℕ). front w ≡ true) whole y-front in
-            let t-long : length t ≡ length row = sym (ap length whole) ∙ e in
-            let fires : moves (length row) M (code z) a ≡ M .fired =
-            moves-match row place tag M (code z) a (omega (arith, C .codes z f h)) (C .steps z a f h .0 ∙ e)
-            in
-            ap₂ (λ (o w : List ℕ). take place z ++ (o ++ w)) (said-is ∙ said-match row place tag (length z) a (length y) h e) (ap (λ (s : ℕ). puts S s x) fires ∙ after x rest)
-            ∙ sym (append-assoc (take place z) (drop place (set row place tag)) (G x))
-            ∙ ap (λ (w : List ℕ). (w ++ drop place (set row place tag)) ++ G x) (sym (take-append-le place z (a ∷ []) (omega (arith, F .inside, t-length, t-long))))
-            ∙ ap (λ (w : List ℕ). w ++ G x) (sym (replaced t t-front t-long))
-            ∙ sym (W .match t x t-front t-long)
-        by (no g) rest =
-            let few : length y < length row = omega (arith, F .few y y-front, g) in
-            let on : moves (length row) M (code z) a ≡ code y =
-            moves-on row place tag M (code z) a (omega (arith, C .codes z f h)) (omega (arith, C .steps z a f h .0)) ∙ C .steps z a f h .1 few
-            in
-            ap₂ (λ (o w : List ℕ). take place z ++ (o ++ w)) said-is (ap (λ (s : ℕ). puts S s x) on)
-            ∙ sym (append-assoc (take place z) (said row place tag (length z) a (length y)) (puts S (code y) x))
-            ∙ ap (λ (w : List ℕ). w ++ puts S (code y) x) (passed z a f h few)
-            ∙ append-assoc (before front t) (take place y) (puts S (code y) x)
-            ∙ ap (λ (w : List ℕ). before front t ++ w) (rest y y-front few)
-            ∙ sym (rewrites-passes row place tag front F R G W t x (omega (arith, t-length)))
+      said-is : said row place tag (M .longest (code z)) a (M .longest (M .step (code z) a)) ≡ said row place tag (length z) a (length y)
+      said-is = ap₂ (λ (j i : ℕ). said row place tag j a i) (C .codes z f h) (C .steps z a f h .0)
+
+      by : Dec (length y ≡ length row) → Before x
+          → take place z ++ (said row place tag (M .longest (code z)) a (M .longest (M .step (code z) a)) ++ puts S (moves (length row) M (code z) a) x) ≡ R (t ++ x)
+      by (yes e) rest =
+          let whole : y ≡ t = ending-whole front t (omega (arith, ending-le front t, t-length)) in
+          let t-front : front t ≡ true = subst (λ (w : List ℕ). front w ≡ true) whole y-front in
+          let t-long : length t ≡ length row = sym (ap length whole) ∙ e in
+          let fires : moves (length row) M (code z) a ≡ M .fired =
+          moves-match row place tag M (code z) a (omega (arith, C .codes z f h)) (C .steps z a f h .0 ∙ e)
+          in
+          ap₂ (λ (o w : List ℕ). take place z ++ (o ++ w)) (said-is ∙ said-match row place tag (length z) a (length y) h e) (ap (λ (s : ℕ). puts S s x) fires ∙ after x rest)
+          ∙ sym (append-assoc (take place z) (drop place (set row place tag)) (behind kind R x))
+          ∙ ap (λ (w : List ℕ). (w ++ drop place (set row place tag)) ++ behind kind R x) (sym (take-append-le place z (a ∷ []) (omega (arith, F .inside, t-length, t-long))))
+          ∙ ap (λ (w : List ℕ). w ++ behind kind R x) (sym (replaced t t-front t-long))
+          ∙ sym (W .match t x t-front t-long)
+      by (no g) rest =
+          let few : length y < length row = omega (arith, F .few y y-front, g) in
+          let on : moves (length row) M (code z) a ≡ code y =
+          moves-on row place tag M (code z) a (omega (arith, C .codes z f h)) (omega (arith, C .steps z a f h .0)) ∙ C .steps z a f h .1 few
+          in
+          ap₂ (λ (o w : List ℕ). take place z ++ (o ++ w)) said-is (ap (λ (s : ℕ). puts S s x) on)
+          ∙ sym (append-assoc (take place z) (said row place tag (length z) a (length y)) (puts S (code y) x))
+          ∙ ap (λ (w : List ℕ). w ++ puts S (code y) x) (passed z a f h few)
+          ∙ append-assoc (before front t) (take place y) (puts S (code y) x)
+          ∙ ap (λ (w : List ℕ). before front t ++ w) (rest y y-front few)
+          ∙ sym (rewrites-passes kind row place tag front F R W t x (omega (arith, t-length)))
 
 -- ---- sound, and what is held
 
-module _ (k : ℕ) (row : List ℕ) (place tag : ℕ) (front : List ℕ → Bool) (F : Fronts row place front) (M : Matcher) (code : List ℕ → ℕ) (C : Matches row place front M code)
+module _ (k : ℕ) (kind : Kind) (row : List ℕ) (place tag : ℕ) (front : List ℕ → Bool) (F : Fronts row place front) (M : Matcher) (code : List ℕ → ℕ) (C : Matches kind row front M code)
     (row-below : Below k row) (tag-below : tag < k) where
   -- how a state and a step stand to the whole pattern
   data Case (s a : ℕ) : Type 0 where
@@ -307,7 +354,7 @@ module _ (k : ℕ) (row : List ℕ) (place tag : ℕ) (front : List ℕ → Bool
         length-drop place (set row place tag),
         length-set row place tag,
         ap (λ (i : ℕ). length (held row place (M .longest i))) (moves-match row place tag M s a l e),
-        ap length (C .fired-empty),
+        ap length (fired-empty row place tag M (F .inside) (C .low) kind (C .fires)),
         held-length row place tag (M .longest s) l,
       )
   balance s a h (on l m) =
@@ -328,7 +375,7 @@ module _ (k : ℕ) (row : List ℕ) (place tag : ℕ) (front : List ℕ → Bool
   sound-matching =
       record {
         some = C .some;
-        empty = ap (held row place) (C .low) ∙ held-in row place tag 0 (omega (arith, F .inside)) ∙ drop-of-length-le [] {i = place} (omega arith);
+        empty = ap (held row place) (C .low) ∙ held-none row place tag (F .inside);
         next-below = λ s a hs ha. next-below s a hs (case s a hs);
         output-below = λ s a hs ha. output-below s a ha (case s a hs);
         final-below = λ s hs. held-below (M .longest s);

@@ -2,7 +2,7 @@
 use Prim.Native.Nat.{ℕ, zero, suc, _+_, _*_, _-_, _≤_, _<_}
 use native.Mathlib.Omega.{arith}
 use native.Mathlib.Numerals.{add-one}
-use mathlib.Core.Path.{_≡_, refl, sym, ap, _∙_}
+use mathlib.Core.Path.{_≡_, refl, sym, ap, _∙_, subst}
 use mathlib.Core.Bool.{false}
 use mathlib.Core.Logic.{_↔_}
 use mathlib.Core.List.{List, [], _∷_, _++_}
@@ -11,10 +11,12 @@ use Rattle.words.specs.Word.{Below, Prefix}
 use Rattle.words.specs.Front.{first}
 use Rattle.words.specs.Pieces.{piecewise}
 use Rattle.words.proofs.Pieces.{Without, Keeps, piecewise-then, piecewise-same, piecewise-below, keeps-then}
-use Rattle.cascades.specs.Rule.{Kind, once, everywhere, Rule, ValidRule, ValidRules, Cascade, having, ValidCascade}
+use Rattle.cascades.specs.Pattern.{word, plain}
+use Rattle.cascades.specs.Rule.{Kind, once, everywhere, Rule, hasSet, ValidRule, ValidRules, Cascade, having, ValidCascade}
 use Rattle.cascades.specs.Rewrite.{apply, applyAll, behavior}
 use Rattle.cascades.specs.Ending.{before, misused}
 use Rattle.cascades.specs.Spares.{Spares, Spare}
+use Rattle.cascades.proofs.Pattern.{word-length, plain-word}
 use Rattle.cascades.proofs.Ending.{free-used, spares-used, keeps-apply}
 use Rattle.transducers.specs.Transducer.{Shape, puts, Transducer, turns}
 use Rattle.transducers.specs.Table.{Table, shape}
@@ -35,7 +37,7 @@ use Rattle.transducers.proofs.Number.{doing-number, canonical-number}
 use Rattle.transducers.proofs.Ended.{does-ended, sound-ended}
 use Rattle.minimal.specs.OneRule.{states, oneRule, ruleTable}
 use Rattle.minimal.specs.TableOf.{identity, add, addRule, addAll, tableOf}
-use Rattle.minimal.proofs.OneRule.{states-few, does-rule, sound-rule, held-rule}
+use Rattle.minimal.proofs.OneRule.{states-few, does-rule, sound-rule, held-rule, byBorders, rule-borders}
 use Rattle.minimal.proofs.Ending.{upto, puts-upto, sound-states, minimal-states, fronts-all, inside-all, fronts-before, inside-before, fronts-within, inside-within}
 
 -- a table after some rules: the canonical one that does f
@@ -162,55 +164,69 @@ good-canonical k d e f g t u a b = (
   λ same. good-only k e g u b t (a .doing .rows) (a .canonical) (λ x hx. a .doing .does x hx ∙ same x hx),
 )
 
--- 002, proposition 5, for the table: as many states as the ended transducer of the rule has that are reached
-one-rule-count : (l : ℕ) (c : Cascade) (r : Rule) (ok : ValidRule l (c .tags) r) (free : before (c .end) (r .pattern) ≡ false) → Spares (c .end) r
-    → (m : ℕ) (some : 0 < m) (few : m ≤ states (r .kind) (length (r .pattern))) (inside : Inside (c .tags) (upto m (ended (c .end) (oneRule r))))
-    → (fronts : (j : ℕ) → j < m → Without (c .end) (take j (r .pattern))) → length (tableOf (having c (r ∷ []))) ≡ m
-one-rule-count l c r ok free spares m some few inside fronts =
+-- 002, proposition 5, for the table of a rule without sets: as many states as its ended transducer has that are reached
+one-rule-count : (l : ℕ) (c : Cascade) (r : Rule) (ok : ValidRule l (c .tags) r) (none : hasSet r ≡ false)
+    (free : before (c .end) (plain (word (r .pattern))) ≡ false) → Spares (c .end) r → (m : ℕ) (some : 0 < m) (few : m ≤ states (r .kind) (length (word (r .pattern)))) (inside : Inside (c .tags) (upto m (ended (c .end) (byBorders r))))
+    → (fronts : (j : ℕ) → j < m → Without (c .end) (take j (word (r .pattern)))) → length (tableOf (having c (r ∷ []))) ≡ m
+one-rule-count l c r ok none free spares m some few inside fronts =
     let k = c .tags in
     let e = c .end in
     let one = having c (r ∷ []) in
     let t = tableOf one in
     let t-good = good l one (ok, tt) (spares, tt) in
-    let S = upto m (ended e (oneRule r)) in
-    let S-sound = sound-states l k e r ok free m some few inside fronts in
+    let S = upto m (ended e (byBorders r)) in
+    let S-sound = sound-states l k e r ok none free m some few inside fronts in
+    let does = subst (λ (R : Shape). Same k (puts R 0) (apply r)) (rule-borders r none) (does-rule l k r ok) in
     let S-does : Same k (puts S 0) (behavior one) = λ x hx.
-    puts-upto m (ended e (oneRule r)) x 0 ∙ does-ended e (oneRule r) x ∙ piecewise-below e k (puts (oneRule r) 0) (apply r) (does-rule l k r ok) x hx in
+    puts-upto m (ended e (byBorders r)) x 0 ∙ does-ended e (byBorders r) x ∙ piecewise-below e k (puts (byBorders r) 0) (apply r) does x hx in
     let up = good-smallest k ((l - 1) * 1) (behavior one) t t-good (machine k S S-sound) S-does in
     let alike : Same k (puts (shape t) 0) (puts S 0) = λ x hx. t-good .doing .does x hx ∙ sym (S-does x hx) in
-    let low = fewest k S (minimal-states l k e r ok free m some few inside fronts) (machine k (shape t) (t-good .doing .sound)) alike some in
+    let low = fewest k S (minimal-states l k e r ok none free m some few inside fronts) (machine k (shape t) (t-good .doing .sound)) alike some in
     omega arith
 
 -- of a leftmost rule one more than the pattern has tags, and as many where it ends with the end tag; of an everywhere rule as many
-module _ (l : ℕ) (c : Cascade) (r : Rule) (ok : ValidRule l (c .tags) r) (fits : misused (c .end) r ≡ false) where
+module _ (l : ℕ) (c : Cascade) (r : Rule) (ok : ValidRule l (c .tags) r) (none : hasSet r ≡ false) (fits : misused (c .end) r ≡ false) where
   abbrev e : ℕ
   e = c .end
 
   abbrev n : ℕ
-  n = length (r .pattern)
+  n = length (word (r .pattern))
 
-  free : before e (r .pattern) ≡ false
-  free = free-used e r fits
+  some : 0 < n
+  some = omega (arith, ok .place-inside, word-length (r .pattern))
 
-  counted : (m : ℕ) → 0 < m → m ≤ states (r .kind) n → Inside (c .tags) (upto m (ended e (oneRule r))) → ((j : ℕ) → j < m → Without e (take j (r .pattern)))
+  free : before e (plain (word (r .pattern))) ≡ false
+  free = ap (before e) (plain-word (r .pattern) none) ∙ free-used e r fits
+
+  counted : (m : ℕ) → 0 < m → m ≤ states (r .kind) n → Inside (c .tags) (upto m (ended e (byBorders r))) → ((j : ℕ) → j < m → Without e (take j (word (r .pattern))))
       → length (tableOf (having c (r ∷ []))) ≡ m
-  counted = one-rule-count l c r ok free (spares-used e r fits)
+  counted = one-rule-count l c r ok none free (spares-used l (c .tags) e r ok fits)
 
-  pub count-everywhere : r .kind ≡ everywhere → length (tableOf (having c (r ∷ []))) ≡ n
+  pub count-everywhere : r .kind ≡ everywhere → length (tableOf (having c (r ∷ []))) ≡ length (r .pattern)
   count-everywhere kind =
-      counted n (omega (arith, ok .place-inside)) (states-few (r .kind) n .0) (inside-within l (c .tags) e r ok free kind) (fronts-within l (c .tags) e r ok free kind)
+      counted n some (states-few (r .kind) n .0) (inside-within l (c .tags) e r ok none free kind) (fronts-within l (c .tags) e r ok none free kind)
+      ∙ word-length (r .pattern)
 
   module _ (kind : r .kind ≡ once) where
-    pub count-other : (getD (r .pattern) (n - 1) 0 ≡ e → ⊥) → length (tableOf (having c (r ∷ []))) ≡ n + 1
+    -- the last tag
+    abbrev last : ℕ
+    last = getD (word (r .pattern)) (length (r .pattern) - 1) 0
+
+    last-is : last ≡ getD (word (r .pattern)) (n - 1) 0
+    last-is = ap (λ (i : ℕ). getD (word (r .pattern)) (i - 1) 0) (sym (word-length (r .pattern)))
+
+    pub count-other : (last ≡ e → ⊥) → length (tableOf (having c (r ∷ []))) ≡ length (r .pattern) + 1
     count-other other =
         let all : states (r .kind) n ≡ suc n = ap (λ (x : Kind). states x n) kind in
-        counted (suc n) (omega arith) (omega arith) (inside-all l (c .tags) e r ok free kind other) (fronts-all l (c .tags) e r ok free kind other)
-        ∙ sym (add-one n)
+        let o : getD (word (r .pattern)) (n - 1) 0 ≡ e → ⊥ = λ f. other (last-is ∙ f) in
+        counted (suc n) (omega arith) (omega arith) (inside-all l (c .tags) e r ok none free kind o) (fronts-all l (c .tags) e r ok none free kind o)
+        ∙ sym (add-one n) ∙ ap (λ (i : ℕ). i + 1) (word-length (r .pattern))
 
-    pub count-ending : getD (r .pattern) (n - 1) 0 ≡ e → length (tableOf (having c (r ∷ []))) ≡ n
+    pub count-ending : last ≡ e → length (tableOf (having c (r ∷ []))) ≡ length (r .pattern)
     count-ending same =
-        counted n (omega (arith, ok .place-inside)) (states-few (r .kind) n .0) (inside-before l (c .tags) e r ok free kind same)
-        (fronts-before l (c .tags) e r ok free kind same)
+        let s : getD (word (r .pattern)) (n - 1) 0 ≡ e = sym last-is ∙ same in
+        counted n some (states-few (r .kind) n .0) (inside-before l (c .tags) e r ok none free kind s) (fronts-before l (c .tags) e r ok none free kind s)
+        ∙ word-length (r .pattern)
 
 -- rules are added one at a time: the tables on the way are those of the leading parts
 addAll-append : (k e : ℕ) (t : Table) (rs ss : List Rule) → addAll k e t (rs ++ ss) ≡ addAll k e (addAll k e t rs) ss

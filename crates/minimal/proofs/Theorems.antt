@@ -10,10 +10,12 @@ use mathlib.Core.List.{List, [], _∷_, _++_}
 use lib.ListN.{length, getD}
 use Rattle.words.specs.Word.{Below, Prefix}
 use Rattle.words.proofs.Word.{below-at}
-use Rattle.cascades.specs.Rule.{once, everywhere, Rule, ValidRule, Cascade, having, leading, ValidCascade}
+use Rattle.cascades.specs.Pattern.{word}
+use Rattle.cascades.specs.Rule.{once, everywhere, Rule, hasSet, ValidRule, Cascade, having, leading, ValidCascade}
 use Rattle.cascades.specs.Rewrite.{behavior}
 use Rattle.cascades.specs.Ending.{misused}
 use Rattle.cascades.specs.Spares.{Spare}
+use Rattle.cascades.proofs.Pattern.{word-length}
 use Rattle.cascades.proofs.Ending.{misused-outside}
 use Rattle.transducers.specs.Transducer.{puts, Transducer, turns}
 use Rattle.transducers.specs.Table.{Table, shape}
@@ -85,27 +87,29 @@ canonical l m c d v s w u k =
     good-canonical (c .tags) ((l - 1) * length (c .rules)) ((m - 1) * length (d .rules)) (behavior c) (behavior d) (tableOf c) (tableOf d)
     (good l c v s) (subst (λ (x : ℕ). Good x ((m - 1) * length (d .rules)) (behavior d) (tableOf d)) (sym k) (good m d w u))
 
+-- "The state counts ... for one rule are those of rules without sets" (document 02, W9).
+
 -- 002, proposition 5: the table of one leftmost rule has one state more than its pattern has tags; and as many as that where the pattern ends
 -- with the end tag, for no state is needed behind a whole match (document 02, W1)
-pub one-rule : (l : ℕ) (c : Cascade) (r : Rule) → ValidRule l (c .tags) r → misused (c .end) r ≡ false → r .kind ≡ once
-    → (getD (r .pattern) (length (r .pattern) - 1) 0 ≡ c .end → ⊥) → length (tableOf (having c (r ∷ []))) ≡ length (r .pattern) + 1
+pub one-rule : (l : ℕ) (c : Cascade) (r : Rule) → ValidRule l (c .tags) r → hasSet r ≡ false → misused (c .end) r ≡ false → r .kind ≡ once
+    → (getD (word (r .pattern)) (length (r .pattern) - 1) 0 ≡ c .end → ⊥) → length (tableOf (having c (r ∷ []))) ≡ length (r .pattern) + 1
 one-rule = count-other
 
-pub one-rule-ending : (l : ℕ) (c : Cascade) (r : Rule) → ValidRule l (c .tags) r → misused (c .end) r ≡ false → r .kind ≡ once
-    → getD (r .pattern) (length (r .pattern) - 1) 0 ≡ c .end → length (tableOf (having c (r ∷ []))) ≡ length (r .pattern)
+pub one-rule-ending : (l : ℕ) (c : Cascade) (r : Rule) → ValidRule l (c .tags) r → hasSet r ≡ false → misused (c .end) r ≡ false → r .kind ≡ once
+    → getD (word (r .pattern)) (length (r .pattern) - 1) 0 ≡ c .end → length (tableOf (having c (r ∷ []))) ≡ length (r .pattern)
 one-rule-ending = count-ending
 
 -- "Such a rule's smallest table has |u| states": that of an everywhere rule, with and without an end tag (document 02, W4)
-pub one-rule-everywhere : (l : ℕ) (c : Cascade) (r : Rule) → ValidRule l (c .tags) r → misused (c .end) r ≡ false → r .kind ≡ everywhere
+pub one-rule-everywhere : (l : ℕ) (c : Cascade) (r : Rule) → ValidRule l (c .tags) r → hasSet r ≡ false → misused (c .end) r ≡ false → r .kind ≡ everywhere
     → length (tableOf (having c (r ∷ []))) ≡ length (r .pattern)
 one-rule-everywhere = count-everywhere
 
 -- with no end tag among the tags, the first and the third
-module _ (l : ℕ) (c : Cascade) (r : Rule) (outside : c .tags ≤ c .end) (ok : ValidRule l (c .tags) r) where
+module _ (l : ℕ) (c : Cascade) (r : Rule) (outside : c .tags ≤ c .end) (ok : ValidRule l (c .tags) r) (none : hasSet r ≡ false) where
   pub one-rule-alone : r .kind ≡ once → length (tableOf (having c (r ∷ []))) ≡ length (r .pattern) + 1
   one-rule-alone kind =
-      one-rule l c r ok (misused-outside l (c .tags) (c .end) outside r ok) kind
-      (λ f. omega (arith, f, below-at (c .tags) (r .pattern) (length (r .pattern) - 1) (omega (arith, ok .place-inside)) (ok .pattern-below)))
+      one-rule l c r ok none (misused-outside l (c .tags) (c .end) outside r ok) kind
+      (λ f. omega (arith, f, below-at (c .tags) (word (r .pattern)) (length (r .pattern) - 1) (omega (arith, ok .place-inside, word-length (r .pattern))) (ok .pattern-below)))
 
   pub one-rule-everywhere-alone : r .kind ≡ everywhere → length (tableOf (having c (r ∷ []))) ≡ length (r .pattern)
-  one-rule-everywhere-alone = one-rule-everywhere l c r ok (misused-outside l (c .tags) (c .end) outside r ok)
+  one-rule-everywhere-alone = one-rule-everywhere l c r ok none (misused-outside l (c .tags) (c .end) outside r ok)

@@ -66,16 +66,12 @@ differences-most (a ∷ v) (b ∷ w) = by (eqb a b) (differences-most v w)
     by true h = omega arith
     by false h = omega arith
 
--- a refusal that names nothing or a byte
-bare : (n : ℕ) → 0 < n → n < 10 → (0 < n) × (n < 256) × (n ≡ 10 → ⊥)
-bare n a b = (a, omega arith, λ e. omega arith)
-
 legible-run : (k : ℕ) (s : List ℕ) (room : ℕ) (made : List ℕ) → Legible (changed s (run k s room made))
 legible-run k s room made = by (run-ends k s room made)
   where
     by : {o : Outcome (List ℕ)} → RunEnds k s room made o → Legible (changed s o)
     by too-long = (omega arith, omega arith, λ e. omega arith)
-    by high-tag = bare 4 (omega arith) (omega arith)
+    by high-tag = (omega arith, omega arith, λ e. omega arith)
     by no-room = (omega arith, omega arith, λ e. omega arith)
     by (made-of a) = omega (arith, differences-most s made, a .short)
 
@@ -96,7 +92,7 @@ legible-book lim book end s room = in-range-or (inRange lim) (andThen (readEndin
     by : (o : Outcome Cascade) → BookRefusal lim o → Legible (changed s (andThen (andThen o (fitted end)) after))
     by (result c) n = fits c (not (badEnd (ending end c)))
     by (refused j nothing) n = absurd n
-    by (refused j (byte i)) n = bare j (n .0) (omega (arith, n .1))
+    by (refused j (byte i)) n = (n .0 .0, omega (arith, n .0 .1), λ e. omega (arith, e, n .0 .2 (omega arith)))
     by (refused j (rule i)) n = absurd n
 
 pub legible-table : (lim : Limits) (table s : List ℕ) (room : ℕ) → Legible (changed s (tableRun lim table s room))
@@ -131,7 +127,7 @@ module _ (ns s : List ℕ) where
           → Legible (changed s (provided 12 a (andThen (provided 13 b (provided 4 c (result (tt {0})))) (λ x. provided 11 d (after (way ns k 1 s))))))
       by false b c d e r = malformed-told
       by true false c d e r = (omega arith, omega arith, λ e. omega arith)
-      by true true false d e r = bare 4 (omega arith) (omega arith)
+      by true true false d e r = (omega arith, omega arith, λ e. omega arith)
       by true true true false e r = (omega arith, omega arith, λ e. omega arith)
       by true true true true e (gave v f) =
           subst (λ (o : Outcome (List ℕ)). Legible (changed s (after o))) (sym f)
@@ -146,7 +142,7 @@ legible-read-book book = by (read standard book) refl (book-refusal standard boo
     by : (o : Outcome Cascade) → read standard book ≡ o → BookRefusal standard o → LegibleByte (bookSize (sizes o))
     by (result c) e n = let v = reads-exactly book c .0 e .0 in omega (arith, v .few-tags, v .few-rules)
     by (refused j nothing) e n = absurd n
-    by (refused j (byte i)) e n = (n .0, omega (arith, n .1), omega (arith, n .2 standard-range))
+    by (refused j (byte i)) e n = (n .0 .0, omega (arith, n .0 .1), omega (arith, n .1 standard-range))
     by (refused j (rule i)) e n = absurd n
 
 pub legible-book-answer : (book : List ℕ) (r : BookAnswer) → bookOutcome r ≡ sizes (read standard book) → LegibleByte (bookSize (bookOutcome r))

@@ -2,6 +2,7 @@
 use Prim.Native.Nat.{ℕ, _*_, _/_, _%_, _≤_, _<_}
 use native.Mathlib.Omega.{arith}
 use mathlib.Core.Path.{_≡_, sym, ap, _∙_}
+use mathlib.Core.Bool.{false}
 use mathlib.Core.List.{List, _++_}
 use lib.ListN.{length, take, drop, replicate, length-replicate}
 use Rattle.limits.specs.Limits.{most-states, no-end, standard}
@@ -23,7 +24,7 @@ pub record StarterCall (before after : List ℕ) (number : ℕ) : Type 0 where
 
 module _ (before after : List ℕ) (number : ℕ) (call : StarterCall before after number) where
   -- it answers and writes what nedzsuka_compile does for the starter book, "wherever the ceiling is 3 to 256 and the slices are long enough"
-  pub as-compiled : (n : ℕ) (work : List ℕ) → 3 ≤ n → n ≤ most-states → work-entries standard n 48 1 ≤ length work
+  pub as-compiled : (n : ℕ) (work : List ℕ) → 3 ≤ n → n ≤ most-states → work-entries standard false n 48 1 ≤ length work
       → CompileCall standard starterBook no-end n work before after number
   as-compiled n work l m w =
       let e = sym (at-every-ceiling n (length work) (length before) l m w) in
@@ -52,7 +53,7 @@ module _ (before after : List ℕ) (number : ℕ) (call : StarterCall before aft
       → RunCall (bookRun standard starterBook no-end sentence (length out)) sentence out by-book book-number
       → (table-number ≡ book-number) × (by-table ≡ by-book)
   same-run =
-      let n = work-entries standard 3 48 1 in
+      let n = work-entries standard false 3 48 1 in
       let work : List ℕ = replicate n 0 in
       let enough : n ≤ length work = omega (arith, length-replicate {A = ℕ} n 0) in
       demand.same-run standard starterBook no-end 3 work before after number (as-compiled 3 work (omega arith) (omega arith) enough)

@@ -1,4 +1,5 @@
 -- Laws of the rule's transducer, as the code writes it.
+pub mod Words
 pub mod Behind
-pub mod Afresh
+pub mod Agree
 pub mod Ruled

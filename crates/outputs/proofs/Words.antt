@@ -7,14 +7,10 @@ use mathlib.Core.Path.{_≡_, sym, ap, ap₂, _∙_}
 use mathlib.Core.List.{List, [], _∷_, _++_}
 use lib.ListN.{length, set, take, drop, length-append, length-set, drop-of-length-le}
 use lib.Seq.{drop-cons, getD-set-same, drop-set-lt, take-length, take-all, take-append-le, take-take, take-add, drop-at, length-take-le}
-use Rattle.words.specs.Overlap.{overlap}
+use Rattle.minimal.specs.Matcher.{held, said}
 use Rattle.minimal.proofs.Matcher.{held-in, held-all, said-after, said-match, said-on}
-use Rattle.minimal.proofs.OneRule.{overlap-step}
 use Rattle.workspace.specs.Cells.{part}
 use Rattle.workspace.proofs.Appending.{part-length}
-use Rattle.matcher.specs.Next.{goes}
-use Rattle.matcher.proofs.Next.{goes-is, goes-le, goes-below}
-use Rattle.outputs.specs.Words.{says, keeps}
 
 part-lesser : (u : List ℕ) (p j : ℕ) → j ≤ length u → part (min p j) j u ≡ part p j u
 part-lesser u p j h = by (decLt p j)
@@ -32,54 +28,43 @@ part-part u p n j h hj =
     sym (ap (drop p) (take-add p n (take j u)) ∙ drop-at (take p (take j u)) (take n (drop p (take j u))) p (length-take-le p (take j u) (omega (arith, length-take-le j u hj))))
     ∙ ap (drop p) (take-take (p + n) j u h)
 
--- the first j tags of u, and a after them
-abbrev pub matched : List ℕ → ℕ → ℕ → List ℕ
-matched u j a = take j u ++ (a ∷ [])
-
 module _ (u : List ℕ) (p b : ℕ) where
-  held-part : (j : ℕ) → j < length u → keeps u p j ≡ part p j u
+  held-part : (j : ℕ) → j < length u → held u p j ≡ part p j u
   held-part j h = held-in u p b j h
 
-  pub held-lesser : (j : ℕ) → j < length u → part (min p j) j u ≡ keeps u p j
+  pub held-lesser : (j : ℕ) → j < length u → part (min p j) j u ≡ held u p j
   held-lesser j h = part-lesser u p j (omega arith) ∙ sym (held-part j h)
 
-  pub held-none : (j : ℕ) → j ≡ length u → [] ≡ keeps u p j
+  pub held-none : (j : ℕ) → j ≡ length u → [] ≡ held u p j
   held-none j e = sym (held-all u p b j e)
 
-  pub says-end : (j a : ℕ) → j ≡ length u → a ∷ [] ≡ says u p b j a
-  says-end j a e = sym (said-after u p b j a (overlap u (matched u j a)) e)
+  module _ (j a next : ℕ) where
+    pub says-end : j ≡ length u → a ∷ [] ≡ said u p b j a next
+    says-end e = sym (said-after u p b j a next e)
 
-  module _ (j a next : ℕ) (h : j < length u) (to : next ≡ goes u j a) where
-    next-is : next ≡ overlap u (matched u j a)
-    next-is = to ∙ goes-is u j a h
+    module _ (h : j < length u) where
+      pub says-match : p < length u → next ≡ length u → b ∷ part (p + 1) (length u) u ≡ said u p b j a next
+      says-match inside e =
+          ap {B = List ℕ} (λ (l : List ℕ). b ∷ drop (p + 1) l) (take-length u)
+          ∙ sym (drop-cons (set u p b) p 0 (omega (arith, length-set u p b))
+          ∙ ap₂ {C = List ℕ} (λ (x : ℕ) (l : List ℕ). x ∷ l) (getD-set-same u p b 0 inside) (drop-set-lt (suc p) u p b (omega arith) ∙ ap (λ (i : ℕ). drop i u) (sym (add-one p))))
+          ∙ sym (said-match u p b j a next h e)
 
-    pub says-match : p < length u → next ≡ length u → b ∷ part (p + 1) (length u) u ≡ says u p b j a
-    says-match inside e =
-        ap {B = List ℕ} (λ (l : List ℕ). b ∷ drop (p + 1) l) (take-length u)
-        ∙ sym (drop-cons (set u p b) p 0 (omega (arith, length-set u p b))
-        ∙ ap₂ {C = List ℕ} (λ (x : ℕ) (l : List ℕ). x ∷ l) (getD-set-same u p b 0 inside) (drop-set-lt (suc p) u p b (omega arith) ∙ ap (λ (i : ℕ). drop i u) (sym (add-one p))))
-        ∙ sym (said-match u p b j a (overlap u (matched u j a)) h (sym next-is ∙ e))
+      -- on a mismatch: what was held and the tag, without what is held next
+      says-back : next < length u → said u p b j a next ≡ take (suc (length (part p j u)) - length (part p next u)) (part p j u ++ (a ∷ []))
+      says-back short =
+          said-on u p b j a next h short ∙ ap₂ (λ (x y : List ℕ). take (suc (length x) - length y) (x ++ (a ∷ []))) (held-part j h) (held-part next short)
 
-    -- on a mismatch: what was held and the tag, without what is held next
-    says-back : (next ≡ length u → ⊥)
-        → says u p b j a ≡ take (suc (length (part p j u)) - length (part p next u)) (part p j u ++ (a ∷ []))
-    says-back e =
-        let short : next < length u = omega (arith, e, next-is, overlap-step u j a h .1) in
-        let i = overlap u (matched u j a) in
-        said-on u p b j a i h (omega (arith, next-is))
-        ∙ ap₂ (λ (x y : List ℕ). take (suc (length x) - length y) (x ++ (a ∷ []))) (held-part j h) (ap (λ (q : ℕ). keeps u p q) (sym next-is) ∙ held-part next short)
+      pub says-short : next < length u → next ≤ j + 1 → p < next → part p (p + (j + 1 - next)) u ≡ said u p b j a next
+      says-short short le lt =
+          let n : suc (length (part p j u)) - length (part p next u) ≡ j + 1 - next =
+          omega (arith, part-length u p j (omega arith), part-length u p next (omega arith)) in
+          sym (says-back short ∙ ap (λ (i : ℕ). take i (part p j u ++ (a ∷ []))) n
+          ∙ take-append-le (j + 1 - next) (part p j u) (a ∷ []) (omega (arith, part-length u p j (omega arith)))
+          ∙ part-part u p (j + 1 - next) j (omega arith) (omega arith))
 
-    pub says-short : (next ≡ length u → ⊥) → p < next → part p (p + (j + 1 - next)) u ≡ says u p b j a
-    says-short e lt =
-        let le = goes-le u j a h in
-        let n : suc (length (part p j u)) - length (part p next u) ≡ j + 1 - next =
-        omega (arith, part-length u p j (omega arith), part-length u p next (omega (arith, goes-below u j a (omega arith)))) in
-        sym (says-back e ∙ ap (λ (i : ℕ). take i (part p j u ++ (a ∷ []))) n
-        ∙ take-append-le (j + 1 - next) (part p j u) (a ∷ []) (omega (arith, part-length u p j (omega arith)))
-        ∙ part-part u p (j + 1 - next) j (omega arith) (omega arith))
-
-    pub says-back-all : (next ≡ length u → ⊥) → next ≤ p → part (min p j) j u ++ (a ∷ []) ≡ says u p b j a
-    says-back-all e le =
-        let none : length (part p next u) ≡ 0 = omega (arith, part-length u p next (omega (arith, goes-below u j a (omega arith)))) in
-        ap (λ (l : List ℕ). l ++ (a ∷ [])) (part-lesser u p j (omega arith))
-        ∙ sym (says-back e ∙ take-all (suc (length (part p j u)) - length (part p next u)) (part p j u ++ (a ∷ [])) (omega (arith, none, length-append (part p j u) (a ∷ []))))
+      pub says-back-all : next < length u → next ≤ p → part (min p j) j u ++ (a ∷ []) ≡ said u p b j a next
+      says-back-all short le =
+          let none : length (part p next u) ≡ 0 = omega (arith, part-length u p next (omega arith)) in
+          ap (λ (l : List ℕ). l ++ (a ∷ [])) (part-lesser u p j (omega arith))
+          ∙ sym (says-back short ∙ take-all (suc (length (part p j u)) - length (part p next u)) (part p j u ++ (a ∷ [])) (omega (arith, none, length-append (part p j u) (a ∷ []))))

@@ -7,14 +7,13 @@ use workspace::Grid;
 use workspace::OUTPUT;
 use workspace::clear;
 use workspace::push;
-ghost use mathlib.Core.Path.{_≡_};
 ghost use Prim.Native.Nat.{_+_, _≤_, _<_};
 ghost use mathlib.Core.List.{_++_};
 ghost use lib.ListN.{length};
 ghost use Rattle.workspace.specs.Entries.{OUTPUT, FINAL};
 ghost use Rattle.workspace.specs.Cells.{at, word, Sized, Written, part};
-ghost use Rattle.matcher.specs.Next.{goes};
-ghost use Rattle.outputs.specs.Words.{says, keeps, Room};
+ghost use Rattle.minimal.specs.Matcher.{held, said};
+ghost use Rattle.outputs.specs.Words.{Room};
 
 // The tags of u from one place up to another, after the word at s.
 fn push_part(
@@ -39,7 +38,7 @@ fn push_part(
     }
 }
 
-// After the empty word: what is put out where the first j tags were matched and a comes.
+// What is put out where the first j tags were matched, a comes, and then the first `next` are.
 pub fn write_output(
     work: &mut [u16],
     g: Grid,
@@ -52,9 +51,9 @@ pub fn write_output(
     next: usize,
 )
     requires { ⌜ Room g (now work) (now u) place ⌝ }
-    requires { ⌜ (r < g .rows) × (a < g .tags) × (j ≤ length (now u)) ⌝ }
-    requires { ⌜ next ≡ goes (now u) j a ⌝ }
-    ensures { λ _. ⌜ Written g (now (work .entry)) (now (work .exit)) r a OUTPUT (says (now (u .entry)) place tag j a) ⌝ }
+    requires { ⌜ (r < g .rows) × (a < g .tags) ⌝ }
+    requires { ⌜ (j ≤ length (now u)) × (next ≤ j + 1) × (next ≤ length (now u)) ⌝ }
+    ensures { λ _. ⌜ Written g (now (work .entry)) (now (work .exit)) r a OUTPUT (said (now (u .entry)) place tag j a next) ⌝ }
 {
     clear(work, g, r, a, OUTPUT);
     if j == u.len() {
@@ -74,10 +73,11 @@ pub fn write_output(
     push(work, g, r, a, OUTPUT, a);
 }
 
+// What is held where the first j tags are matched.
 pub fn write_final(work: &mut [u16], g: Grid, r: usize, u: &[u8], place: usize, tag: u8, j: usize)
     requires { ⌜ Room g (now work) (now u) place ⌝ }
     requires { ⌜ (r < g .rows) × (j ≤ length (now u)) ⌝ }
-    ensures { λ _. ⌜ Written g (now (work .entry)) (now (work .exit)) r (g .tags) FINAL (keeps (now (u .entry)) place j) ⌝ }
+    ensures { λ _. ⌜ Written g (now (work .entry)) (now (work .exit)) r (g .tags) FINAL (held (now (u .entry)) place j) ⌝ }
 {
     clear(work, g, r, g.tags, FINAL);
     if j == u.len() {

@@ -4,15 +4,45 @@ use native.Mathlib.Omega.{arith}
 use native.Mathlib.Decide.{ℕ-discrete, decLt}
 use mathlib.Core.Path.{_≡_, refl, sym, ap, _∙_, subst}
 use mathlib.Core.Bool.{Bool, true, false}
-use mathlib.Core.List.{List}
+use mathlib.Core.List.{List, [], _∷_}
 use lib.ListN.{length, drop, getD, List·getD-append}
-use lib.Seq.{getD-drop}
+use lib.Dec.{eqb}
+use lib.Seq.{getD-drop, drop-length}
 use Rattle.words.specs.Word.{prefix}
-use Rattle.words.proofs.Word.{prefix-split}
-use Rattle.cascades.proofs.Rewrite.{first-other}
+use Rattle.words.proofs.Word.{prefix-split, prefix-next, prefix-stops}
 use Rattle.places.specs.declared.Occurrence.{Occurrence}
 use Rattle.places.specs.declared.Occurrence.the-variants.{At, Nowhere}
 use Rattle.places.specs.Places.{All, Free, LeastWithin, FoundWithin}
+
+-- ---- the test at a place
+
+pub prefix-short : (u w : List ℕ) → length w < length u → prefix u w ≡ false
+prefix-short [] w h = absurd (omega arith)
+prefix-short (a ∷ u) [] h = refl
+prefix-short (a ∷ u) (b ∷ w) h = test (eqb a b) (prefix-short u w (omega arith))
+  where
+    test : (t : Bool) → prefix u w ≡ false → elim t [ true ↦ prefix u w | false ↦ false ] ≡ false
+    test true e = e
+    test false e = refl
+
+module _ (u s : List ℕ) (i j : ℕ) (h : j < length u) (k : j + i < length s) where
+  pub same-next : getD s (j + i) 0 ≡ getD u j 0 → prefix (drop j u) (drop (j + i) s) ≡ prefix (drop (j + 1) u) (drop (j + 1 + i) s)
+  same-next e =
+      let n : j + i + 1 ≡ j + 1 + i = omega arith in
+      prefix-next u s j (j + i) h k (sym e) ∙ ap (λ (m : ℕ). prefix (drop (j + 1) u) (drop m s)) n
+
+  pub other-next : (getD s (j + i) 0 ≡ getD u j 0 → ⊥) → prefix (drop j u) (drop (j + i) s) ≡ false
+  other-next e = prefix-stops u s j (j + i) h k (λ q. e (sym q))
+
+-- all tags passed
+pub all-same : (u s : List ℕ) (i j : ℕ) → j ≡ length u → true ≡ prefix (drop j u) (drop (j + i) s)
+all-same u s i j e = let d : drop j u ≡ [] = rw e (drop-length u) in cc
+
+-- the first tag alone
+pub first-other : (u s : List ℕ) (i : ℕ) → 0 < length u → i < length s → (getD s i 0 ≡ getD u 0 0 → ⊥) → prefix u (drop i s) ≡ false
+first-other u s i h k e =
+    let n : 0 + i ≡ i = omega arith in
+    subst (λ (m : ℕ). prefix u (drop m s) ≡ false) n (other-next u s i 0 h (omega arith) (λ q. e (subst (λ (m : ℕ). getD s m 0 ≡ getD u 0 0) n q)))
 
 -- ---- places one by one
 

@@ -31,15 +31,16 @@ fn write_rules(
     rows: &[[u8; PATTERN]; RULES],
     lengths: &[usize; RULES],
     heads: &[[u8; HEAD]; RULES],
+    sets: &[[u64; PATTERN]],
 ) -> usize
-    requires { ⌜ Usable m (arrays rows lengths heads) ⌝ }
+    requires { ⌜ Usable m (arrays rows lengths heads (now sets)) ⌝ }
     requires { ⌜ length (now sentence) ≤ length (now out) ⌝ }
-    ensures { λ r. ⌜ Wrote (applyAll (rulesOf (arrays (rows .entry) (lengths .entry) (heads .entry)) m) (now (sentence .entry))) (now (sentence .entry)) (now (out .entry)) (now (out .exit)) r ⌝ }
+    ensures { λ r. ⌜ Wrote (applyAll (rulesOf (arrays (rows .entry) (lengths .entry) (heads .entry) (now (sets .entry))) m) (now (sentence .entry))) (now (sentence .entry)) (now (out .entry)) (now (out .exit)) r ⌝ }
 {
     let mut none = [0u8; 0];
     let n = sentence.len();
     sentences::copy(sentence, out);
-    application::apply_rules(&mut out[..n], &mut none[..], rows, lengths, heads, m);
+    application::apply_rules(&mut out[..n], &mut none[..], rows, lengths, heads, sets, m);
     sentences::count_changes(sentence, &out[..n])
 }
 
@@ -53,16 +54,26 @@ fn write_pieces(
     rows: &[[u8; PATTERN]; RULES],
     lengths: &[usize; RULES],
     heads: &[[u8; HEAD]; RULES],
+    sets: &[[u64; PATTERN]],
 ) -> usize
-    requires { ⌜ Usable m (arrays rows lengths heads) ⌝ }
+    requires { ⌜ Usable m (arrays rows lengths heads (now sets)) ⌝ }
     requires { ⌜ Below no-end (now sentence) × (length (now sentence) ≤ length (now out)) ⌝ }
-    ensures out { λ r. ⌜ Wrote (piecewise end (applyAll (rulesOf (arrays (rows .entry) (lengths .entry) (heads .entry)) m)) (now (sentence .entry))) (now (sentence .entry)) (now (out .entry)) (now (out .exit)) r ⌝ }
-    ensures v { λ _. ⌜ (length (now (sentence .entry)) ≤ length (now (v .entry)) → now (v .exit) ≡ piecewise end (numbersOf (rulesOf (arrays (rows .entry) (lengths .entry) (heads .entry)) m)) (now (sentence .entry)) ++ drop (length (now (sentence .entry))) (now (v .entry))) ⌝ }
+    ensures out { λ r. ⌜ Wrote (piecewise end (applyAll (rulesOf (arrays (rows .entry) (lengths .entry) (heads .entry) (now (sets .entry))) m)) (now (sentence .entry))) (now (sentence .entry)) (now (out .entry)) (now (out .exit)) r ⌝ }
+    ensures v { λ _. ⌜ (length (now (sentence .entry)) ≤ length (now (v .entry)) → now (v .exit) ≡ piecewise end (numbersOf (rulesOf (arrays (rows .entry) (lengths .entry) (heads .entry) (now (sets .entry))) m)) (now (sentence .entry)) ++ drop (length (now (sentence .entry))) (now (v .entry))) ⌝ }
 {
     let n = sentence.len();
     let noted = lesser(n, v.len());
     sentences::copy(sentence, out);
-    application::apply_book(&mut out[..n], &mut v[..noted], end, rows, lengths, heads, m);
+    application::apply_book(
+        &mut out[..n],
+        &mut v[..noted],
+        end,
+        rows,
+        lengths,
+        heads,
+        sets,
+        m,
+    );
     sentences::count_changes(sentence, &out[..n])
 }
 
@@ -75,15 +86,16 @@ pub fn run_rules(
     rows: &[[u8; PATTERN]; RULES],
     lengths: &[usize; RULES],
     heads: &[[u8; HEAD]; RULES],
+    sets: &[[u64; PATTERN]],
 ) -> RunAnswer
-    requires { ⌜ Usable m (arrays rows lengths heads) ⌝ }
-    ensures { λ r. ⌜ Ran (run k (now (sentence .entry)) (length (now (out .entry))) (applyAll (rulesOf (arrays (rows .entry) (lengths .entry) (heads .entry)) m) (now (sentence .entry)))) (now (sentence .entry)) (now (out .entry)) (now (out .exit)) r ⌝ }
+    requires { ⌜ Usable m (arrays rows lengths heads (now sets)) ⌝ }
+    ensures { λ r. ⌜ Ran (run k (now (sentence .entry)) (length (now (out .entry))) (applyAll (rulesOf (arrays (rows .entry) (lengths .entry) (heads .entry) (now (sets .entry))) m) (now (sentence .entry)))) (now (sentence .entry)) (now (out .entry)) (now (out .exit)) r ⌝ }
 {
     let admission = sentences::admit(sentence, k, out.len());
     if let Admission::Refused(refusal) = admission {
         return RunAnswer::Refused(refusal);
     }
-    let changes = write_rules(sentence, out, m, rows, lengths, heads);
+    let changes = write_rules(sentence, out, m, rows, lengths, heads, sets);
     RunAnswer::Changed(changes)
 }
 
@@ -99,19 +111,20 @@ pub fn run_pieces(
     rows: &[[u8; PATTERN]; RULES],
     lengths: &[usize; RULES],
     heads: &[[u8; HEAD]; RULES],
+    sets: &[[u64; PATTERN]],
 ) -> RunAnswer
-    requires { ⌜ Usable m (arrays rows lengths heads) ⌝ }
+    requires { ⌜ Usable m (arrays rows lengths heads (now sets)) ⌝ }
     requires { ⌜ (k ≤ no-end) × (room ≤ length (now out)) ⌝ }
-    ensures out { λ r. ⌜ Ran (cascadeRun end (cascadeOf k (arrays (rows .entry) (lengths .entry) (heads .entry)) m) (now (sentence .entry)) room) (now (sentence .entry)) (now (out .entry)) (now (out .exit)) r ⌝ }
-    ensures v { λ _. ⌜ (room ≤ length (now (v .entry)) → now (v .exit) ≡ written (cascadeNumbers end (cascadeOf k (arrays (rows .entry) (lengths .entry) (heads .entry)) m) (now (sentence .entry)) room) (now (v .entry))) ⌝ }
+    ensures out { λ r. ⌜ Ran (cascadeRun end (cascadeOf k (arrays (rows .entry) (lengths .entry) (heads .entry) (now (sets .entry))) m) (now (sentence .entry)) room) (now (sentence .entry)) (now (out .entry)) (now (out .exit)) r ⌝ }
+    ensures v { λ _. ⌜ (room ≤ length (now (v .entry)) → now (v .exit) ≡ written (cascadeNumbers end (cascadeOf k (arrays (rows .entry) (lengths .entry) (heads .entry) (now (sets .entry))) m) (now (sentence .entry)) room) (now (v .entry))) ⌝ }
 {
-    if endings::bad_end(k, rows, lengths, heads, m, end) {
+    if endings::bad_end(k, rows, lengths, heads, sets, m, end) {
         return RunAnswer::Refused(Refusal::Bare { number: 14 });
     }
     let admitted = sentences::admit(sentence, k, room);
     if let Admission::Refused(refusal) = admitted {
         return RunAnswer::Refused(refusal);
     }
-    let changed = write_pieces(sentence, out, v, end, m, rows, lengths, heads);
+    let changed = write_pieces(sentence, out, v, end, m, rows, lengths, heads, sets);
     RunAnswer::Changed(changed)
 }

@@ -17,7 +17,11 @@ pub fn pack_book(answer: BookAnswer) -> u64
     ensures { λ r. ⌜ r ≡ packedByte (bookSize (bookOutcome answer)) ⌝ }
 {
     match answer {
-        BookAnswer::Book { tags, rules } => pack(wide(tags) * 256 + rules, 0),
+        BookAnswer::Book {
+            tags,
+            rules,
+            sets: _,
+        } => pack(wide(tags) * 256 + rules, 0),
         BookAnswer::Refused(given) => pack_byte(given),
     }
 }

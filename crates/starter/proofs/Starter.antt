@@ -2,6 +2,7 @@
 use Prim.Native.Nat.{ℕ, _≤_, _<_}
 use native.Mathlib.Omega.{arith}
 use mathlib.Core.Path.{_≡_, refl, sym, ap, _∙_}
+use mathlib.Core.Bool.{false}
 use mathlib.Core.List.{List, _++_}
 use borrow.Author.Tests.{le-leb, lt-leb}
 use lib.ListN.{length, drop}
@@ -43,7 +44,7 @@ pub answers : (room : ℕ) → 731 ≤ room → starterAnswer room ≡ result by
 answers room l = computed room ∙ ap (λ t. provided 11 t (result bytes)) (le-leb (length bytes) room (omega (arith, long)))
 
 -- as an equation with compile
-compiles : compileAnswer standard starterBook no-end 3 (work-entries standard 3 48 1) 731 ≡ result bytes
+compiles : compileAnswer standard starterBook no-end 3 (work-entries standard false 3 48 1) 731 ≡ result bytes
 unfolding starterAnswer
 compiles = answers 731 (omega arith)
 
@@ -60,13 +61,13 @@ front array before after w l e =
 pub at-every-ceiling : AtEveryCeiling
 at-every-ceiling n work room l m w =
     let p : Premises standard starterBook no-end n work starterCascade = record { ranged = standard-range; reads = reads; some = omega arith; most = m; long = w } in
-    demand.greater-ceiling standard starterBook no-end 3 (work-entries standard 3 48 1) 731 bytes compiles n work room starterCascade l p
+    demand.greater-ceiling standard starterBook no-end 3 (work-entries standard false 3 48 1) 731 bytes compiles n work room starterCascade l p
     ∙ sym (computed room)
 
 -- so demand 3 holds of it,
-pub compiled : Compiled standard starterBook no-end 3 (work-entries standard 3 48 1) bytes
-compiled = demand.compiled standard starterBook no-end 3 (work-entries standard 3 48 1) 731 bytes compiles
+pub compiled : Compiled standard starterBook no-end 3 (work-entries standard false 3 48 1) bytes
+compiled = demand.compiled standard starterBook no-end 3 (work-entries standard false 3 48 1) 731 bytes compiles
 
 -- and its run is the run of the book, for every sentence and every output slice
 pub same-run : (sentence : List ℕ) (slice : ℕ) → tableRun standard bytes sentence slice ≡ bookRun standard starterBook no-end sentence slice
-same-run = runs.same-run standard starterBook no-end 3 (work-entries standard 3 48 1) 731 bytes compiles
+same-run = runs.same-run standard starterBook no-end 3 (work-entries standard false 3 48 1) 731 bytes compiles

@@ -1,4 +1,4 @@
-// Compiles a book of at most four tags and two rules, raw bytes on standard input, with ceiling 16: writes the table's states, its length and
+// Compiles a book of at most four tags and two rules without sets, raw bytes on standard input, with ceiling 16: writes the table's states, its length and
 // its bytes; or `refused` with the number, and i for 10; or `too big`.
 use answers::CompileAnswer;
 use answers::Refusal;
@@ -85,10 +85,12 @@ fn answer(book: &[u8]) {
 fn answer_book(book: &[u8]) {
     match reader::read_book(book, STANDARD) {
         BookAnswer::Refused(refusal) => put_refusal(refusal),
-        BookAnswer::Book { tags, rules } => {
+        BookAnswer::Book { tags, rules, sets } => {
             if 4 < tags {
                 put(b"too big\n");
             } else if 2 < rules {
+                put(b"too big\n");
+            } else if sets {
                 put(b"too big\n");
             } else {
                 answer(book);

@@ -1,9 +1,10 @@
 -- The run of a book, from what its reader answers; f makes the result or the numbers.
 use Prim.Native.Nat.{ℕ, _≤_}
 use native.Mathlib.Omega.{arith}
-use mathlib.Core.Path.{_≡_, sym, ap, _∙_}
+use mathlib.Core.Path.{_≡_, sym, ap, _∙_, subst}
 use mathlib.Core.Bool.{false}
 use mathlib.Core.List.{List}
+use lib.ListN.{length}
 use Rattle.limits.specs.Limits.{InRange, inRange, no-end}
 use Rattle.limits.specs.declared.Limits.{Limits}
 use Rattle.limits.proofs.Range.{within-is, without-is}
@@ -19,9 +20,9 @@ use Rattle.cascades.proofs.Ending.{without-end}
 use Rattle.books.specs.Read.{read}
 use Rattle.books.specs.Ending.{fitted, readEnding}
 use Rattle.books.specs.Arrays.{Arrays, rulesOf, cascadeOf}
-use Rattle.books.specs.Resume.{Whole}
-use Rattle.books.specs.declared.BookAnswer.{BookAnswer}
-use Rattle.books.specs.declared.BookAnswer.the-variants.{Book}
+use Rattle.books.specs.Resume.{ReadAs, Whole}
+use Rattle.books.specs.declared.Reading.{Reading}
+use Rattle.books.specs.declared.Reading.the-variants.{Book, Sets}
 use Rattle.books.proofs.Encode.{reads-exactly}
 use Rattle.books.proofs.Held.{was-refused, was-read, rules-held}
 use Rattle.running.specs.Rules.{running}
@@ -41,9 +42,9 @@ module _ (lim : Limits) (f : Cascade → List ℕ → List ℕ) (bytes : List �
   pub limits-refused : inRange lim ≡ false → refusal (Bare 17) ≡ reading lim f bytes e s room
   limits-refused out = sym (without-is lim rest out)
 
-module _ {lim : Limits} (bytes : List ℕ) (a : Arrays) (r : BookAnswer) (w : Whole lim bytes a r) (ranged : InRange lim) where
+module _ {lim : Limits} (bytes : List ℕ) (a : Arrays) (r : Reading) (w : Whole lim bytes a r) (ranged : InRange lim) where
   module _ (f : Cascade → List ℕ → List ℕ) (e : ℕ) (s : List ℕ) (room : ℕ) where
-    pub book-refused : (x : Refusal) → r ≡ BookAnswer.Refused x → refusal x ≡ reading lim f bytes e s room
+    pub book-refused : (x : Refusal) → r ≡ Reading.Refused x → refusal x ≡ reading lim f bytes e s room
     book-refused x g = stays x (was-refused bytes a r w x g) ∙ inside lim f bytes e s room ranged
       where
         stays : (x : Refusal) → read lim bytes ≡ refusal x → refusal x ≡ rest lim f bytes e s room
@@ -53,6 +54,10 @@ module _ {lim : Limits} (bytes : List ℕ) (a : Arrays) (r : BookAnswer) (w : Wh
 
     pub book-runs : (k m : ℕ) → r ≡ Book k m → running f e (cascadeOf k a m) s room ≡ reading lim f bytes e s room
     book-runs k m g = sym (ap (λ (o : Outcome Cascade). andThen (andThen o (fitted e)) (λ b. run (b .tags) s room (f b s))) (was-read bytes a r w k m g)) ∙ inside lim f bytes e s room ranged
+
+  -- a set was met that there is no room for
+  pub no-room : r ≡ Sets → length (a .sets) ≡ 0
+  no-room g = subst (λ (x : Reading). ReadAs x a (read lim bytes)) g (w .outcome)
 
   module _ (k m : ℕ) (f : r ≡ Book k m) where
     pub few-tags : k ≤ no-end

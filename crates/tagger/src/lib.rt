@@ -2,8 +2,8 @@
 // number of the last rule that rewrote each tag, and has no length where a call wants no numbers.
 use answers::Refusal;
 use answers::RunAnswer;
-use books::BookAnswer;
 use books::HEAD;
+use books::Reading;
 use limits::Limits;
 use limits::PATTERN;
 use limits::RULES;
@@ -14,13 +14,17 @@ ghost use mathlib.Core.Path.{_≡_};
 ghost use Prim.Native.Nat.{_≤_, min};
 ghost use lib.ListN.{length};
 ghost use Rattle.limits.specs.Limits.{InRange, no-end};
+ghost use mathlib.Core.Bool.{false};
 ghost use Rattle.answers.specs.Slice.{written};
+ghost use Rattle.books.specs.Arrays.{SetRows};
+ghost use Rattle.books.specs.Resume.{Unless};
 ghost use Rattle.sentences.specs.Run.{Ran};
 ghost use Rattle.tagging.specs.Run.{bookRun};
 ghost use Rattle.tagging.specs.Numbers.{bookNumbers};
 
-// Runs a book over a sentence, with limits in their ranges, where the slices that get a result have at least `room` bytes. The reader is lent a
-// slice of all of the book: the slice itself would be copied in memory, and the reader would wait for the copy.
+// Runs a book over a sentence, with limits in their ranges, where the slices that get a result have at least `room` bytes. Where the rows have no room
+// for sets and the book has one, `met` becomes true, and the answer says nothing. The reader is lent a slice of all of the book: the slice itself
+// would be copied in memory, and the reader would wait for the copy.
 fn run_within(
     book: &[u8],
     end: u8,
@@ -28,21 +32,26 @@ fn run_within(
     out: &mut [u8],
     v: &mut [u8],
     room: usize,
+    sets: &mut [[u64; PATTERN]],
+    met: &mut bool,
     lim: Limits,
 ) -> RunAnswer
     requires { ⌜ room ≤ length (now out) ⌝ }
-    requires { ⌜ InRange lim ⌝ }
-    ensures out { λ r. ⌜ Ran (bookRun lim (now (book .entry)) end (now (sentence .entry)) room) (now (sentence .entry)) (now (out .entry)) (now (out .exit)) r ⌝ }
-    ensures v { λ _. ⌜ (room ≤ length (now (v .entry)) → now (v .exit) ≡ written (bookNumbers lim (now (book .entry)) end (now (sentence .entry)) room) (now (v .entry))) ⌝ }
+    requires { ⌜ InRange lim × SetRows (now sets) × (now met ≡ false) ⌝ }
+    ensures { λ r. ⌜ Unless (now (met .exit)) ((length (now (sets .entry)) ≡ 0) × (now (out .exit) ≡ now (out .entry)) × (now (v .exit) ≡ now (v .entry))) (Ran (bookRun lim (now (book .entry)) end (now (sentence .entry)) room) (now (sentence .entry)) (now (out .entry)) (now (out .exit)) r × (room ≤ length (now (v .entry)) → now (v .exit) ≡ written (bookNumbers lim (now (book .entry)) end (now (sentence .entry)) room) (now (v .entry)))) ⌝ }
 {
     let mut rows = [[0u8; PATTERN]; RULES];
     let mut lengths = [0usize; RULES];
     let mut heads = [[0u8; HEAD]; RULES];
     let n = book.len();
-    let got = reader::read_into(&book[..n], &mut rows, &mut lengths, &mut heads, lim);
+    let got = reader::read_into(&book[..n], &mut rows, &mut lengths, &mut heads, sets, lim);
     match got {
-        BookAnswer::Refused(refusal) => RunAnswer::Refused(refusal),
-        BookAnswer::Book { tags: k, rules } => run_pieces(
+        Reading::Refused(refusal) => RunAnswer::Refused(refusal),
+        Reading::Sets => {
+            *met = true;
+            RunAnswer::Changed(0)
+        }
+        Reading::Book { tags: k, rules } => run_pieces(
             sentence,
             out,
             v,
@@ -53,8 +62,28 @@ fn run_within(
             &rows,
             &lengths,
             &heads,
+            sets,
         ),
     }
+}
+
+// The same with room for sets.
+fn run_sets(
+    book: &[u8],
+    end: u8,
+    sentence: &[u8],
+    out: &mut [u8],
+    v: &mut [u8],
+    room: usize,
+    lim: Limits,
+) -> RunAnswer
+    requires { ⌜ (room ≤ length (now out)) × InRange lim ⌝ }
+    ensures out { λ r. ⌜ Ran (bookRun lim (now (book .entry)) end (now (sentence .entry)) room) (now (sentence .entry)) (now (out .entry)) (now (out .exit)) r ⌝ }
+    ensures v { λ _. ⌜ (room ≤ length (now (v .entry)) → now (v .exit) ≡ written (bookNumbers lim (now (book .entry)) end (now (sentence .entry)) room) (now (v .entry))) ⌝ }
+{
+    let mut sets = [[0u64; PATTERN]; RULES];
+    let mut met = false;
+    run_within(book, end, sentence, out, v, room, &mut sets, &mut met, lim)
 }
 
 // Runs a book over a sentence, piece by piece where an end tag ends them: the number of changed tags, with the result in the first bytes of
@@ -71,8 +100,24 @@ pub fn run_book_rules(
     ensures rules { λ _. ⌜ now (rules .exit) ≡ written (bookNumbers lim (now (book .entry)) end (now (sentence .entry)) (min (length (now (out .entry))) (length (now (rules .entry))))) (now (rules .entry)) ⌝ }
 {
     if limits::in_range(lim) {
+        let mut none = [[0u64; PATTERN]; 0];
+        let mut met = false;
         let room = lesser(out.len(), rules.len());
-        return run_within(book, end, sentence, out, rules, room, lim);
+        let answer = run_within(
+            book,
+            end,
+            sentence,
+            out,
+            rules,
+            room,
+            &mut none[..],
+            &mut met,
+            lim,
+        );
+        if met {
+            return run_sets(book, end, sentence, out, rules, room, lim);
+        }
+        return answer;
     }
     RunAnswer::Refused(Refusal::Bare { number: 17 })
 }
@@ -88,14 +133,40 @@ pub fn run_book_ending(
     ensures { λ r. ⌜ Ran (bookRun lim (now (book .entry)) end (now (sentence .entry)) (length (now (out .entry)))) (now (sentence .entry)) (now (out .entry)) (now (out .exit)) r ⌝ }
 {
     if limits::in_range(lim) {
-        let mut none = [0u8; 0];
+        let mut none = [[0u64; PATTERN]; 0];
+        let mut met = false;
+        let mut v = [0u8; 0];
         let room = out.len();
-        return run_within(book, end, sentence, out, &mut none[..], room, lim);
+        let answer = run_within(
+            book,
+            end,
+            sentence,
+            out,
+            &mut v[..],
+            room,
+            &mut none[..],
+            &mut met,
+            lim,
+        );
+        if met {
+            return run_sets(book, end, sentence, out, &mut v[..], room, lim);
+        }
+        return answer;
     }
     RunAnswer::Refused(Refusal::Bare { number: 17 })
 }
 
-// Runs a book over a sentence without an end tag, with limits in their ranges.
+// Runs a book with sets over a sentence without an end tag, with limits in their ranges.
+fn run_without_end(book: &[u8], sentence: &[u8], out: &mut [u8], lim: Limits) -> RunAnswer
+    requires { ⌜ InRange lim ⌝ }
+    ensures { λ r. ⌜ Ran (bookRun lim (now (book .entry)) no-end (now (sentence .entry)) (length (now (out .entry)))) (now (sentence .entry)) (now (out .entry)) (now (out .exit)) r ⌝ }
+{
+    let mut v = [0u8; 0];
+    let room = out.len();
+    run_sets(book, limits::NO_END, sentence, out, &mut v[..], room, lim)
+}
+
+// The same for every book, without room for sets at first.
 fn run_whole(book: &[u8], sentence: &[u8], out: &mut [u8], lim: Limits) -> RunAnswer
     requires { ⌜ InRange lim ⌝ }
     ensures { λ r. ⌜ Ran (bookRun lim (now (book .entry)) no-end (now (sentence .entry)) (length (now (out .entry)))) (now (sentence .entry)) (now (out .entry)) (now (out .exit)) r ⌝ }
@@ -103,10 +174,19 @@ fn run_whole(book: &[u8], sentence: &[u8], out: &mut [u8], lim: Limits) -> RunAn
     let mut rows = [[0u8; PATTERN]; RULES];
     let mut lengths = [0usize; RULES];
     let mut heads = [[0u8; HEAD]; RULES];
-    let got = reader::read_into(book, &mut rows, &mut lengths, &mut heads, lim);
+    let mut none = [[0u64; PATTERN]; 0];
+    let got = reader::read_into(
+        book,
+        &mut rows,
+        &mut lengths,
+        &mut heads,
+        &mut none[..],
+        lim,
+    );
     match got {
-        BookAnswer::Refused(refusal) => RunAnswer::Refused(refusal),
-        BookAnswer::Book { tags: k, rules } => run_rules(
+        Reading::Refused(refusal) => RunAnswer::Refused(refusal),
+        Reading::Sets => run_without_end(book, sentence, out, lim),
+        Reading::Book { tags: k, rules } => run_rules(
             sentence,
             out,
             k,
@@ -114,6 +194,7 @@ fn run_whole(book: &[u8], sentence: &[u8], out: &mut [u8], lim: Limits) -> RunAn
             &rows,
             &lengths,
             &heads,
+            &none[..],
         ),
     }
 }

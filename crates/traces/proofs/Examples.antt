@@ -2,7 +2,8 @@
 use mathlib.Core.Path.{_≡_, refl}
 use mathlib.Core.List.{List, [], _∷_}
 use Rattle.cascades.specs.Rule.{once, everywhere, Rule, Cascade}
-use Rattle.cascades.specs.Value.{rule}
+use Rattle.cascades.specs.Pattern.{one, any}
+use Rattle.cascades.specs.Value.{rule, ruleWith}
 use Rattle.traces.specs.Trace.{beside, trace, traced}
 
 -- document 01's book C: 0 1 → 0 2, then 2 3 → 1 3
@@ -25,6 +26,10 @@ twice = refl
 -- everywhere, at each match, and not inside one: 0 0 → 0 1
 each-match : trace (rule everywhere (0 ∷ 0 ∷ []) 1 1 ∷ []) (0 ∷ 0 ∷ 0 ∷ 0 ∷ 0 ∷ []) ≡ beside (0 ∷ 1 ∷ 0 ∷ 1 ∷ 0 ∷ []) (0 ∷ 1 ∷ 0 ∷ 1 ∷ 0 ∷ [])
 each-match = refl
+
+-- any of 0 and 1 before 2, everywhere: the 2 becomes 0
+with-set : trace (ruleWith everywhere (any 3 ∷ one 2 ∷ []) 1 0 ∷ []) (2 ∷ 1 ∷ 2 ∷ 2 ∷ 0 ∷ 2 ∷ []) ≡ beside (2 ∷ 1 ∷ 0 ∷ 2 ∷ 0 ∷ 0 ∷ []) (0 ∷ 0 ∷ 1 ∷ 0 ∷ 0 ∷ 1 ∷ [])
+with-set = refl
 
 -- book C with the end tag 4, piece by piece: each rule once in each
 abbrev pieced : Cascade

@@ -7,12 +7,13 @@ use mathlib.Core.List.{List, [], _∷_, _++_}
 use borrow.Author.Tests.{eq-eqb, ne-eqb}
 use lib.Dec.{eqb}
 use lib.ListN.{length, take, drop, set, getD, length-append, length-set, take-append-drop}
-use lib.Seq.{take-at}
-use Rattle.words.specs.Word.{prefix}
-use Rattle.words.proofs.Word.{prefix-split}
+use Rattle.cascades.specs.Pattern.{Class, fits}
 use Rattle.cascades.specs.Rule.{Kind, once, everywhere, Rule}
 use Rattle.cascades.specs.Rewrite.{behind, rewrite, apply}
+use Rattle.cascades.specs.Spares.{Changes}
+use Rattle.cascades.proofs.Pattern.{fits-match, match-length}
 use Rattle.cascades.proofs.Rewrite.{apply-long}
+use Rattle.cascades.proofs.Ending.{match-at}
 use Rattle.traces.specs.Trace.{mark}
 use Rattle.traces.specs.Note.{note}
 
@@ -70,14 +71,14 @@ note-put x (a ∷ w) (b ∷ w') (c ∷ v) zero e h l = ap (λ (y : Bool). elim y
 note-put x (a ∷ w) (b ∷ w') (c ∷ v) (suc q) e h l = note-put x w w' v q e (omega arith) (omega arith)
 
 -- a rule writes its number exactly where it makes another tag: its new tag is another than the one at p
-module _ (r : Rule) (hp : r .place < length (r .pattern)) (new : getD (r .pattern) (r .place) 0 ≡ r .tag → ⊥) (x : ℕ) where
-  abbrev u : List ℕ
+module _ (r : Rule) (changes : Changes r) (x : ℕ) where
+  abbrev u : List Class
   u = r .pattern
 
   mark-notes : (n : ℕ) (w v : List ℕ) → mark n r x w v ≡ note x w (rewrite n r w) v
   mark-notes zero w v = sym (note-same x w v)
   mark-notes (suc n) [] v = refl
-  mark-notes (suc n) (a ∷ w) v = by (prefix u (a ∷ w)) refl (mark-notes n w (drop 1 v)) (rest (r .kind) (mark-notes n y (drop (length u) v)))
+  mark-notes (suc n) (a ∷ w) v = by (fits u (a ∷ w)) refl (mark-notes n w (drop 1 v)) (rest (r .kind) (mark-notes n y (drop (length u) v)))
     where
       y : List ℕ
       y = drop (length u) (a ∷ w)
@@ -91,18 +92,24 @@ module _ (r : Rule) (hp : r .place < length (r .pattern)) (new : getD (r .patter
       first [] = note-nothing x w (rewrite n r w)
       first (c ∷ v) = ap (λ (b : Bool). elim b [ true ↦ c | false ↦ x ] ∷ note x w (rewrite n r w) v) (sym (eq-eqb a a refl))
 
-      by : (t : Bool) → prefix u (a ∷ w) ≡ t → mark n r x w (drop 1 v) ≡ note x w (rewrite n r w) (drop 1 v)
+      by : (t : Bool) → fits u (a ∷ w) ≡ t → mark n r x w (drop 1 v) ≡ note x w (rewrite n r w) (drop 1 v)
           → behind (r .kind) (mark n r x y) (drop (length u) v) ≡ note x y (behind (r .kind) (rewrite n r) y) (drop (length u) v)
           → _≡_ {A = List ℕ}
           (elim t [ true ↦ set (take (length u) v) (r .place) x ++ behind (r .kind) (mark n r x y) (drop (length u) v) | false ↦ take 1 v ++ mark n r x w (drop 1 v) ])
           (note x (a ∷ w) (elim t [ true ↦ set (take (length u) (a ∷ w)) (r .place) (r .tag) ++ behind (r .kind) (rewrite n r) y | false ↦ a ∷ rewrite n r w ]) v)
       by true p e f =
-          let is : a ∷ w ≡ u ++ y = prefix-split u (a ∷ w) p in
-          let front : take (length u) (a ∷ w) ≡ u = ap (take (length u)) is ∙ take-at u y (length u) refl in
+          let m = take (length u) (a ∷ w) in
+          let match = fits-match u (a ∷ w) p in
+          let is : a ∷ w ≡ m ++ y = sym (take-append-drop (length u) (a ∷ w)) in
+          let long : length m ≡ length u = match-length u m match in
+          let inside : r .place < length m = omega (arith, changes .inside) in
+          let other : getD m (r .place) 0 ≡ r .tag → ⊥ = λ g. changes .new (sym (match-at u m (r .place) match (changes .fixed)) ∙ g) in
           let z = behind (r .kind) (rewrite n r) y in
-          sym (ap₂ (λ (s t : List ℕ). note x s (set t (r .place) (r .tag) ++ z) v) is front
-          ∙ note-append x u (set u (r .place) (r .tag)) y z v (sym (length-set u (r .place) (r .tag)))
-          ∙ ap₂ (λ (s t : List ℕ). s ++ t) (note-set x u u (take (length u) v) (r .place) (r .tag) hp hp new ∙ ap (λ (s : List ℕ). set s (r .place) x) (note-same x u (take (length u) v))) (sym f))
+          sym (ap (λ (s : List ℕ). note x s (set m (r .place) (r .tag) ++ z) v) is
+          ∙ note-append x m (set m (r .place) (r .tag)) y z v (sym (length-set m (r .place) (r .tag)))
+          ∙ ap₂ (λ (s t : List ℕ). s ++ t)
+          (note-set x m m (take (length m) v) (r .place) (r .tag) inside inside other ∙ ap (λ (s : List ℕ). set s (r .place) x) (note-same x m (take (length m) v)) ∙ ap (λ (i : ℕ). set (take i v) (r .place) x) long)
+          (ap (λ (i : ℕ). note x y z (drop i v)) long ∙ sym f))
       by false p e f = ap (λ (s : List ℕ). take 1 v ++ s) e ∙ first v
 
   pub mark-is-note : (w v : List ℕ) → mark (length w) r x w v ≡ note x w (apply r w) v
@@ -120,7 +127,7 @@ module _ (r : Rule) (hp : r .place < length (r .pattern)) (new : getD (r .patter
 mark-tag : (r : Rule) (n : ℕ) (w : List ℕ) → mark n r (r .tag) w w ≡ rewrite n r w
 mark-tag r zero w = refl
 mark-tag r (suc n) [] = refl
-mark-tag r (suc n) (a ∷ w) = by (prefix (r .pattern) (a ∷ w)) (mark-tag r n w) (rest (r .kind) (mark-tag r n y))
+mark-tag r (suc n) (a ∷ w) = by (fits (r .pattern) (a ∷ w)) (mark-tag r n w) (rest (r .kind) (mark-tag r n y))
   where
     y : List ℕ
     y = drop (length (r .pattern)) (a ∷ w)
@@ -146,7 +153,7 @@ mark-is-apply r w = mark-tag r (length w) w
 mark-size : (n : ℕ) (r : Rule) (x : ℕ) (w v : List ℕ) → length (mark n r x w v) ≡ length v
 mark-size zero r x w v = refl
 mark-size (suc n) r x [] v = refl
-mark-size (suc n) r x (a ∷ w) v = by (prefix (r .pattern) (a ∷ w)) (mark-size n r x w (drop 1 v)) (rest (r .kind) (mark-size n r x y (drop m v)))
+mark-size (suc n) r x (a ∷ w) v = by (fits (r .pattern) (a ∷ w)) (mark-size n r x w (drop 1 v)) (rest (r .kind) (mark-size n r x y (drop m v)))
   where
     m : ℕ
     m = length (r .pattern)

@@ -10,6 +10,8 @@ use lib.Seq.{take-all, take-nil, take-append-seam, take-append-add}
 use Rattle.words.specs.Pieces.{pieces}
 use Rattle.words.proofs.Pieces.{piecewise-same}
 use Rattle.cascades.specs.Rule.{Rule, ValidRule, ValidRules, Cascade, ValidCascade}
+use Rattle.cascades.specs.Spares.{Changes}
+use Rattle.cascades.proofs.Ending.{valid-changes}
 use Rattle.cascades.specs.Rewrite.{apply, applyAll, behavior}
 use Rattle.cascades.proofs.Rewrite.{applyAll-long, applyAll-append}
 use Rattle.traces.specs.Trace.{Traced, beside, mark, traceRule, traceFrom, trace, tagsOf, numbersOf, traced}
@@ -66,11 +68,8 @@ module _ (l k q : ℕ) where
   numbered-from i (r ∷ rs) ok w v h =
       by (numbered-from (suc i) rs (ok .1) w' v' (omega (arith, h, mark-long r i w v))) (ℕ-discrete (getD w q 0) (getD w' q 0))
     where
-      hp : r .place < length (r .pattern)
-      hp = ok .0 .place-inside
-
-      new : getD (r .pattern) (r .place) 0 ≡ r .tag → ⊥
-      new = ok .0 .tag-new
+      changes : Changes r
+      changes = valid-changes l k r (ok .0)
 
       w' : List ℕ
       w' = apply r w
@@ -94,7 +93,7 @@ module _ (l k q : ℕ) where
           later : (j : ℕ) → suc (b .at) < j → ((j : ℕ) → b .at < j → tagBehind rs w' q (suc j) ≡ tagBehind rs w' q j) → tagBehind (r ∷ rs) w q (suc j) ≡ tagBehind (r ∷ rs) w q j
           later zero g kept = absurd (omega arith)
           later (suc j) g kept = kept j (omega arith)
-      by (inl a) (yes e) = inl (record { is = a .is ∙ mark-kept r hp new i w v q e; kept = λ j. all j (a .kept) })
+      by (inl a) (yes e) = inl (record { is = a .is ∙ mark-kept r changes i w v q e; kept = λ j. all j (a .kept) })
         where
           all : (j : ℕ) → ((j : ℕ) → tagBehind rs w' q (suc j) ≡ tagBehind rs w' q j) → tagBehind (r ∷ rs) w q (suc j) ≡ tagBehind (r ∷ rs) w q j
           all zero kept = sym e
@@ -103,7 +102,7 @@ module _ (l k q : ℕ) where
           inr (record {
             at = 0;
             inside = omega arith;
-            is = a .is ∙ mark-put r hp new i w v q d h ∙ omega arith;
+            is = a .is ∙ mark-put r changes i w v q d h ∙ omega arith;
             rewrote = d;
             kept = λ j g. behind-it j g (a .kept);
           })
@@ -166,7 +165,7 @@ valid-there l k (q ∷ front) r back ok = valid-there l k front r back (ok .1)
 -- a tag that a rule has rewritten is its new tag
 rewritten-tag : (l k : ℕ) (r : Rule) → ValidRule l k r → (w : List ℕ) (q : ℕ) → q < length w → (getD w q 0 ≡ getD (apply r w) q 0 → ⊥) → getD (apply r w) q 0 ≡ r .tag
 rewritten-tag l k r ok w q h d =
-    ap (λ (x : List ℕ). getD x q 0) (sym (mark-is-apply r w)) ∙ mark-put r (ok .place-inside) (ok .tag-new) (r .tag) w w q d h
+    ap (λ (x : List ℕ). getD x q 0) (sym (mark-is-apply r w)) ∙ mark-put r (valid-changes l k r ok) (r .tag) w w q d h
 
 module _ (l k : ℕ) (rs front : List Rule) (r : Rule) (back : List Rule) (there : rs ≡ front ++ (r ∷ back)) (ok : ValidRules l k rs) (w : List ℕ) (q : ℕ) where
   last-made : q < length w → LastRule rs w q (suc (length front)) → tagBehind rs w q (suc (length front)) ≡ r .tag

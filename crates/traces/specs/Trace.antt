@@ -3,8 +3,8 @@ use Prim.Native.Nat.{ℕ, zero, suc}
 use mathlib.Core.Bool.{true, false}
 use mathlib.Core.List.{List, [], _∷_, _++_}
 use lib.ListN.{length, take, drop, set, replicate}
-use Rattle.words.specs.Word.{prefix}
 use Rattle.words.specs.Pieces.{piecewise}
+use Rattle.cascades.specs.Pattern.{fits}
 use Rattle.cascades.specs.Rule.{Rule, Cascade}
 use Rattle.cascades.specs.Rewrite.{behind, apply}
 
@@ -23,7 +23,7 @@ mark zero r i w v = v
 mark (suc n) r i [] v = v
 mark (suc n) r i (a ∷ w) v =
     let u = r .pattern in
-    elim (prefix u (a ∷ w)) [
+    elim (fits u (a ∷ w)) [
       | true ↦ set (take (length u) v) (r .place) i ++ behind (r .kind) (mark n r i (drop (length u) (a ∷ w))) (drop (length u) v)
       | false ↦ take 1 v ++ mark n r i w (drop 1 v)
     ]

@@ -4,7 +4,7 @@ use native.Mathlib.Omega.{arith}
 use mathlib.Core.Path.{_≡_, refl, sym, ap, _∙_}
 use mathlib.Core.Bool.{Bool, true, false, not}
 use mathlib.Core.List.{List}
-use borrow.Author.Tests.{lt-ltb, le-ltb, ltb-true}
+use borrow.Author.Tests.{lt-ltb, le-ltb, ltb-true, not-true}
 use lib.Dec.{ltb}
 use lib.ListN.{length}
 use Rattle.limits.specs.Limits.{longest-sentence}
@@ -38,11 +38,7 @@ module _ (x : Sentence) (n : ℕ) where
   stands e =
       let a = passed 15 (not (x .closed)) _ tt e in
       let b = passed 16 (ltb (x .state) n) _ tt (a .1) in
-      (not-closed (x .closed) (a .0), ltb-true (x .state) n (b .0))
-    where
-      not-closed : (b : Bool) → not b ≡ true → b ≡ false
-      not-closed false f = refl
-      not-closed true f = sym f
+      (not-true (x .closed) (a .0), ltb-true (x .state) n (b .0))
 
   module _ (k a : ℕ) where
     abbrev then : Unit {0} → Outcome (Unit {0})

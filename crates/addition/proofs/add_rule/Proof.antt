@@ -1,21 +1,16 @@
 -- `addition::add_rule` meets its contract: the laws of the phases, one after the other.
 use native.Mathlib.Omega.{arith}
 use borrow.Author.Needs.{needs}
+use mathlib.Core.List.{[]}
+use lib.ListN.{getD}
 use Rattle.cascades.specs.Rule.{Rule}
 use Rattle.cascades.specs.Value.{ruleOf}
 use Rattle.addition.proofs.Phases.{room, rule-fits, composable, ready-composed, ready-normalized, early-normalized, is-classed, added}
 use Rattle.addition.proofs.add_rule.Statement.{statement}
 use Rattle.addition.proofs.add_rule.Tie as tie
-use Rattle.addition.proofs.add_rule.Reads as reads
-use Rattle.addition.proofs.add_rule.Lts as lts
-use Rattle.compose.proofs.compose.Reads as compose-reads
-use Rattle.merge.proofs.merge.Reads as merge-reads
-use Rattle.normalize.proofs.normalize.Reads as normalize-reads
-use Rattle.number.proofs.number.Reads as number-reads
-use Rattle.onerule.proofs.write_rule.Reads as write-rule-reads
 
 abbrev the-rule : tie.Start → Rule
-the-rule st = ruleOf (st .args .rule)
+the-rule st = ruleOf (st .args .rule) (getD (st .args .sets .now) (st .args .i) [])
 
 add-second : tie.Need-add-second
 add-second c = search needs
@@ -27,10 +22,10 @@ write-rule-requires : tie.Need-write-rule-requires
 write-rule-requires c κs =
     let st = c .before .before in
     let a = st .args in (
-      st .pre .0,
+      st .pre .0 .0,
       (
         room (a .g) (a .work .now) (a .n) (a .ceiling) (a .s) (a .end) (the-rule st) (st .pre .1),
-        (rule-fits (a .g) (a .work .now) (a .n) (a .ceiling) (a .s) (a .end) (the-rule st) (st .pre .1), st .pre .1 .free),
+        (st .pre .0 .1, rule-fits (a .g) (a .work .now) (a .n) (a .ceiling) (a .s) (a .end) (the-rule st) (st .pre .1), st .pre .1 .free),
       ),
     )
 

@@ -28,7 +28,7 @@ returns : tie.Need-returns
 returns c =
     let a = c .before .before .before .before .before .before .before .before .before .before .before .before .before .args in
     let x = c .before .before .before .before .apply-rules in
-    let rs = rulesOf (holding (a .rows .now) (a .lengths .now) (a .heads .now)) (a .m) in
+    let rs = rulesOf (holding (a .rows .now) (a .lengths .now) (a .heads .now) (a .sets .now)) (a .m) in
     (x .ensures .0, x .ensures .1 ∙ ap (λ (z : List ℕ). traceFrom 1 rs (beside (a .s .now) z) .numbers) (c .before .before .before .before .before .before .before .before .before .clear .ensures))
 
 pub apply-afresh-spec : {M : Type 1} → statement M

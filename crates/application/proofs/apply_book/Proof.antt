@@ -32,7 +32,7 @@ returns c =
     let a = st .args in
     let x = c .before .before .before .before .apply-afresh in
     let none = c .before .before .before .before .before .before .before .if1 .taken in
-    let rs = rulesOf (holding (a .rows .now) (a .lengths .now) (a .heads .now)) (a .m) in (
+    let rs = rulesOf (holding (a .rows .now) (a .lengths .now) (a .heads .now) (a .sets .now)) (a .m) in (
       x .ensures .0 ∙ one-piece (a .end) (applyAll rs) (a .s .now) none (st .pre .1),
       λ long. x .ensures .1 ∙ ap (λ (n : ℕ). traceFrom 1 rs (beside (a .s .now) (replicate n 0)) .numbers) long ∙ one-piece (a .end) (numbersOf rs) (a .s .now) none (st .pre .1),
     )

@@ -58,7 +58,7 @@ returns c =
     let l = c .before .before .before .before .before .before .before .lesser in
     let p = c .before .before .before .before .before .before .before .before .first-piece in
     let a = c .before .before .before .before .before .before .before .before .before .before .before .before .args in
-    let rs = rulesOf (holding (a .rows .now) (a .lengths .now) (a .heads .now)) (a .m) in
+    let rs = rulesOf (holding (a .rows .now) (a .lengths .now) (a .heads .now) (a .sets .now)) (a .m) in
     let is = ap (λ (y : List ℕ). y ++ drop (p .result) (a .s .now)) (x .ensures .0) in (
       begun-piece (a .end) (applyAll rs) (applyAll-long rs) (a .s .now) _ (p .result) (p .ensures) is,
       (

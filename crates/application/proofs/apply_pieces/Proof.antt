@@ -29,20 +29,20 @@ making rs end = piecewise end (applyAll rs)
 abbrev numbering : List Rule → ℕ → List ℕ → List ℕ
 numbering rs end = piecewise end (numbersOf rs)
 
-abbrev rulesIn : List (List ℕ) → List ℕ → List (List ℕ) → ℕ → List Rule
-rulesIn rows lengths heads m = rulesOf (holding rows lengths heads) m
+abbrev rulesIn : List (List ℕ) → List ℕ → List (List ℕ) → List (List ℕ) → ℕ → List Rule
+rulesIn rows lengths heads sets m = rulesOf (holding rows lengths heads sets) m
 
 abbrev Inv-loop : tie.InvT-loop
-Inv-loop s₀ v₀ end rows lengths heads m from₀ s v from =
-    Begun (making (rulesIn rows lengths heads m) end) (making (rulesIn rows lengths heads m) end) s₀ s s from
+Inv-loop s₀ v₀ end rows lengths heads sets m from₀ s v from =
+    Begun (making (rulesIn rows lengths heads sets m) end) (making (rulesIn rows lengths heads sets m) end) s₀ s s from
     × (length v ≡ length v₀)
-    × (length v₀ ≡ length s₀ → Begun (numbering (rulesIn rows lengths heads m) end) (numbering (rulesIn rows lengths heads m) end) s₀ s v from)
+    × (length v₀ ≡ length s₀ → Begun (numbering (rulesIn rows lengths heads sets m) end) (numbering (rulesIn rows lengths heads sets m) end) s₀ s v from)
 
 abbrev μ-loop : tie.MeasureT-loop
-μ-loop s₀ v₀ end rows lengths heads m from₀ s v from = length s - from
+μ-loop s₀ v₀ end rows lengths heads sets m from₀ s v from = length s - from
 
 abbrev rules : tie.Start Inv-loop μ-loop → List Rule
-rules st = rulesIn (st .args .rows .now) (st .args .lengths .now) (st .args .heads .now) (st .args .m)
+rules st = rulesIn (st .args .rows .now) (st .args .lengths .now) (st .args .heads .now) (st .args .sets .now) (st .args .m)
 
 loop-holds : tie.Need-loop-holds Inv-loop μ-loop
 loop-holds c =
@@ -93,7 +93,7 @@ module _ (c : tie.After-apply-first Inv-loop μ-loop) where
   abbrev noted : ℕ
   noted = c .before .before .before .lesser .result
 
-  abbrev inv : Inv-loop (st .args .s .now) (st .args .v .now) (st .args .end) (st .args .rows .now) (st .args .lengths .now) (st .args .heads .now) (st .args .m) 0 s v from
+  abbrev inv : Inv-loop (st .args .s .now) (st .args .v .now) (st .args .end) (st .args .rows .now) (st .args .lengths .now) (st .args .heads .now) (st .args .sets .now) (st .args .m) 0 s v from
   inv = c .before .before .before .before .before .loop .inv
 
   abbrev made : List ℕ

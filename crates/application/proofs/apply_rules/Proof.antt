@@ -3,14 +3,15 @@ use Prim.Native.Nat.{ℕ, _+_, _-_, _≤_}
 use native.Mathlib.Omega.{arith}
 use borrow.Author.Needs.{needs}
 use mathlib.Core.Path.{_≡_, refl, sym, _∙_, ap, subst}
+use mathlib.Core.List.{[]}
 use lib.ListN.{length, getD}
 use Rattle.cascades.specs.Rule.{Rule}
 use Rattle.cascades.specs.Rewrite.{applyAll}
 use Rattle.cascades.specs.Value.{ruleOf}
+use Rattle.cascades.specs.Spares.{Changes}
 use Rattle.books.specs.Arrays.{Arrays, holding, rulesOf}
-use Rattle.endings.proofs.Ending.{rule-inside}
 use Rattle.traces.specs.Trace.{beside, traceFrom}
-use Rattle.application.proofs.Rules.{rule-next, number-next}
+use Rattle.application.proofs.Rules.{rule-next, number-next, changes-at, set-row}
 use Rattle.application.proofs.apply_rules.Statement.{statement}
 use Rattle.application.proofs.apply_rules.Tie as tie
 use Rattle.application.proofs.apply_rules.Reads as reads
@@ -19,15 +20,15 @@ use Rattle.reader.proofs.rule_at.Reads as rule-at-reads
 use Rattle.rewriting.proofs.apply_rule.Reads as apply-rule-reads
 
 abbrev Inv-loop : tie.InvT-loop
-Inv-loop s₀ v₀ rows lengths heads m i₀ s v i =
-    (i ≤ m) × (length s ≡ length s₀) × (s ≡ applyAll (rulesOf (holding rows lengths heads) i) s₀) × (length v ≡ length v₀)
-    × (v ≡ traceFrom 1 (rulesOf (holding rows lengths heads) i) (beside s₀ v₀) .numbers)
+Inv-loop s₀ v₀ rows lengths heads sets m i₀ s v i =
+    (i ≤ m) × (length s ≡ length s₀) × (s ≡ applyAll (rulesOf (holding rows lengths heads sets) i) s₀) × (length v ≡ length v₀)
+    × (v ≡ traceFrom 1 (rulesOf (holding rows lengths heads sets) i) (beside s₀ v₀) .numbers)
 
 abbrev μ-loop : tie.MeasureT-loop
-μ-loop s₀ v₀ rows lengths heads m i₀ s v i = m - i
+μ-loop s₀ v₀ rows lengths heads sets m i₀ s v i = m - i
 
 abbrev arrays : tie.Start Inv-loop μ-loop → Arrays
-arrays st = holding (st .args .rows .now) (st .args .lengths .now) (st .args .heads .now)
+arrays st = holding (st .args .rows .now) (st .args .lengths .now) (st .args .heads .now) (st .args .sets .now)
 
 loop-holds : tie.Need-loop-holds Inv-loop μ-loop
 loop-holds c = (omega arith, refl, refl, refl, refl)
@@ -37,8 +38,8 @@ rule-at-requires c κs =
     let st = c .before .before .before .before in
     (st .pre .shaped, omega (arith, st .pre .few))
 
-add-i : tie.Need-add-i Inv-loop μ-loop
-add-i c = search needs
+add-number : tie.Need-add-number Inv-loop μ-loop
+add-number c = search needs
 
 -- the rule that was read
 module _ (c : tie.After-rule-at Inv-loop μ-loop) where
@@ -51,8 +52,8 @@ module _ (c : tie.After-rule-at Inv-loop μ-loop) where
   number-small : i + 1 ≤ 16
   number-small = omega (arith, st .pre .few)
 
-  rule-new : getD (ruleOf (c .rule-at .result) .pattern) (ruleOf (c .rule-at .result) .place) 0 ≡ ruleOf (c .rule-at .result) .tag → ⊥
-  rule-new = subst (λ (r : Rule). getD (r .pattern) (r .place) 0 ≡ r .tag → ⊥) (sym (c .rule-at .ensures .0)) (st .pre .new i (omega arith))
+  abbrev taken : Rule
+  taken = ruleOf (c .rule-at .result) (getD (st .args .sets .now) i [])
 
 cast-apply-rule : tie.Need-cast-apply-rule Inv-loop μ-loop
 cast-apply-rule c = omega (arith, number-small (c .before .before))
@@ -61,8 +62,10 @@ apply-rule-requires : tie.Need-apply-rule-requires Inv-loop μ-loop
 apply-rule-requires c κs =
     let p = c .before .before in
     let r = p .rule-at in
-    let s = st p in
-    (r .ensures .1, rule-inside (arrays s) (i p) (r .result) (r .ensures .0) (r .ensures .1) (s .pre .shaped) (omega (arith, number-small p)) (s .pre .inside (i p) (omega arith)), rule-new p)
+    let s = st p in (
+      (r .ensures .1, set-row (s .args .sets .now) (i p) (r .result) (r .ensures .1) (s .pre .shaped .set-long (i p))),
+      subst Changes (sym (r .ensures .0)) (changes-at (s .args .m) (arrays s) (s .pre) (i p) (omega arith)),
+    )
 
 loop-less : tie.Need-loop-less Inv-loop μ-loop
 loop-less c = search needs
@@ -76,9 +79,9 @@ loop-again c =
     let called = c .before .before .before .before .apply-rule in (
       omega arith,
       called .kept .0 ∙ l .inv .1,
-      called .ensures .0 ∙ rule-next (arrays s) (l .i) (ruleOf (r .result)) (r .ensures .0) (s .args .s .now) (l .s) (l .inv .2),
+      called .ensures .0 ∙ rule-next (arrays s) (l .i) (taken p) (r .ensures .0) (s .args .s .now) (l .s) (l .inv .2),
       called .kept .1 .0 ∙ l .inv .3,
-      called .ensures .1 ∙ number-next (arrays s) (l .i) (ruleOf (r .result)) (r .ensures .0) _ (s .args .s .now) (l .s) (l .v) _ refl (l .inv .2) (l .inv .4),
+      called .ensures .1 ∙ number-next (arrays s) (l .i) (taken p) (r .ensures .0) _ (s .args .s .now) (l .s) (l .v) _ refl (l .inv .2) (l .inv .4),
     )
 
 same-length : tie.Need-same-length Inv-loop μ-loop
@@ -104,7 +107,7 @@ apply-rules-spec =
     μ-loop
     loop-holds
     rule-at-requires
-    add-i
+    add-number
     cast-apply-rule
     apply-rule-requires
     loop-less

@@ -1,6 +1,7 @@
 -- `commands::open_book` meets its contract: each return is a case of the definition at the first two bytes.
 use native.Mathlib.Omega.{arith}
 use borrow.Author.Needs.{needs}
+use mathlib.Core.Path.{_≡_}
 use lib.ListN.{getD}
 use Rattle.books.specs.Read.{read}
 use Rattle.books.proofs.Commands.{book-empty, book-other, book-no-size, book-few, book-many, book-sized}
@@ -85,8 +86,8 @@ returns-6 c =
     let st = c .before .before .before .before .before .before .before .before .before .before in (
       λ a h.
           resumes-book (st .args .s .now) (read (st .args .lim) (st .args .s .now)) 2 a h (getD (st .args .s .now) 1 0) 0 (omega arith) (omega arith)
-          (book-sized (st .args .lim) (st .args .s .now) (omega arith) (search needs) a (omega arith) (omega arith) (omega arith)),
-      λ k m e. cc,
+          (book-sized (st .args .lim) (st .args .s .now) (omega arith) (search needs) a (omega arith) (omega arith) (omega arith) (omega (arith, st .pre .few-tags))),
+      λ k m e. let same : k ≡ getD (st .args .s .now) 1 0 = cc in (omega (arith, st .pre .few-tags), cc),
     )
 
 pub open-book-spec : {M : Type 1} → statement M

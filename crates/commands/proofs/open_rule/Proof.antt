@@ -19,7 +19,7 @@ use Rattle.commands.proofs.closing_fault.Reads as closing-fault-reads
 use Rattle.commands.proofs.refused.Reads as refused-reads
 
 abbrev arrays : tie.Start → Arrays
-arrays st = holding (st .args .rows .now) (st .args .lengths .now) (st .args .heads .now)
+arrays st = holding (st .args .rows .now) (st .args .lengths .now) (st .args .heads .now) (st .args .sets .now)
 
 abbrev entry : tie.Start → Outcome Cascade
 entry st = readCommands (st .args .lim) (st .args .s .now) (st .args .k) (st .args .m) (arrays st) (st .args .at)
@@ -97,20 +97,20 @@ mul-lengths c = search needs
 element-write-lengths : tie.Need-element-write-lengths
 element-write-lengths c = search needs
 
-shared-slice-read-t18 : tie.Need-shared-slice-read-t18
-shared-slice-read-t18 c = search needs
+shared-slice-read-t19 : tie.Need-shared-slice-read-t19
+shared-slice-read-t19 c = search needs
 
-shared-slice-read-t23 : tie.Need-shared-slice-read-t23
-shared-slice-read-t23 c = search needs
+shared-slice-read-t24 : tie.Need-shared-slice-read-t24
+shared-slice-read-t24 c = search needs
 
-mul-t16 : tie.Need-mul-t16
-mul-t16 c = search needs
+mul-t17 : tie.Need-mul-t17
+mul-t17 c = search needs
 
 element-set-from-heads : tie.Need-element-set-from-heads
 element-set-from-heads c = search needs
 
-add-t16 : tie.Need-add-t16
-add-t16 c = search needs
+add-t17 : tie.Need-add-t17
+add-t17 c = search needs
 
 returns-6 : tie.Need-returns-6
 returns-6 c =
@@ -145,9 +145,9 @@ open-rule-spec =
     returns-5
     mul-lengths
     element-write-lengths
-    shared-slice-read-t18
-    shared-slice-read-t23
-    mul-t16
+    shared-slice-read-t19
+    shared-slice-read-t24
+    mul-t17
     element-set-from-heads
-    add-t16
+    add-t17
     returns-6)

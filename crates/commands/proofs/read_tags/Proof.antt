@@ -1,16 +1,20 @@
 -- `commands::read_tags` meets its contract: each return is a case of the definition at 22, and each turn puts one tag after the row's.
 use native.Mathlib.Omega.{arith}
 use borrow.Author.Needs.{needs}
-use Prim.Native.Nat.{_+_, _-_, _≤_}
-use mathlib.Core.Path.{_≡_, refl, _∙_}
+use Prim.Native.Nat.{ℕ, _+_, _-_, _≤_}
+use mathlib.Core.Path.{_≡_, refl, ap, _∙_}
 use mathlib.Core.List.{List, []}
 use lib.ListN.{length, getD, take, length-set}
+use lib.Seq.{length-take-le}
 use Rattle.limits.specs.Limits.{longest-pattern}
 use Rattle.limits.specs.declared.Limits.{Limits}
+use Rattle.cascades.specs.Pattern.{Class, plain}
 use Rattle.cascades.specs.Rule.{Rule}
+use Rattle.cascades.proofs.Pattern.{plain-length}
 use Rattle.books.specs.Resume.{readTags}
 use Rattle.books.proofs.Commands.{tag-too-many, tag-missing, tag-high, tag-taken}
 use Rattle.books.proofs.Resume.{tags-refused, tags-to}
+use Rattle.books.proofs.SoFar.{plain-more}
 use Rattle.commands.proofs.read_tags.Statement.{statement}
 use Rattle.commands.proofs.read_tags.Tie as tie
 use Rattle.commands.proofs.read_tags.Reads as reads
@@ -19,10 +23,14 @@ use Rattle.commands.proofs.read_tags.Lts as lts
 abbrev Inv-loop : tie.InvT-loop
 Inv-loop s from k row₀ most at₀ n₀ row at n =
     (from ≤ at) × (at ≤ length s) × (n ≤ most) × (length row ≡ longest-pattern)
-    × ((lim : Limits) (r : Rule) (rs : List Rule) → lim .pattern ≡ most → readTags lim s k r rs [] from ≡ readTags lim s k r rs (take n row) at)
+    × ((lim : Limits) (r : Rule) (rs : List Rule) → lim .pattern ≡ most → readTags lim s k r rs [] from ≡ readTags lim s k r rs (plain (take n row)) at)
 
 abbrev μ-loop : tie.MeasureT-loop
 μ-loop s from k row₀ most at₀ n₀ row at n = length s - at
+
+-- so many tags so far
+tags : (st : tie.Start Inv-loop μ-loop) (row : List ℕ) (n : ℕ) → n ≤ st .args .most → length row ≡ longest-pattern → length (plain (take n row)) ≡ n
+tags st row n h long = plain-length (take n row) ∙ length-take-le n row (omega (arith, st .pre .2))
 
 loop-holds : tie.Need-loop-holds Inv-loop μ-loop
 loop-holds c = (omega arith, c .pre .0, omega arith, c .pre .1, λ lim r rs e. refl)
@@ -44,7 +52,7 @@ returns-2 c =
     let s = st .args .s .now in
     let is : getD s (l .at) 0 ≡ 0x22 = search needs in
     tags-refused s (st .args .from) (st .args .k) (st .args .most) (l .row) (l .inv .3) 3 (l .at)
-    (λ lim r rs e. l .inv .4 lim r rs e ∙ tag-too-many lim s (st .args .k) r rs (l .row) (l .n) (l .at) (omega (arith, l .inv .2, l .inv .3, st .pre .2)) (omega arith) is (omega arith))
+    (λ lim r rs e. l .inv .4 lim r rs e ∙ tag-too-many lim s (st .args .k) r rs (plain (take (l .n) (l .row))) (l .at) (omega arith) is (omega (arith, tags st (l .row) (l .n) (l .inv .2) (l .inv .3))))
 
 add-byte : tie.Need-add-byte Inv-loop μ-loop
 add-byte c = search needs
@@ -56,7 +64,7 @@ returns-3 c =
     let s = st .args .s .now in
     let is : getD s (l .at) 0 ≡ 0x22 = search needs in
     tags-refused s (st .args .from) (st .args .k) (st .args .most) (l .row) (l .inv .3) 1 (l .at + 1)
-    (λ lim r rs e. l .inv .4 lim r rs e ∙ tag-missing lim s (st .args .k) r rs (l .row) (l .n) (l .at) (omega (arith, l .inv .2, l .inv .3, st .pre .2)) (omega arith) is (omega arith) (omega arith))
+    (λ lim r rs e. l .inv .4 lim r rs e ∙ tag-missing lim s (st .args .k) r rs (plain (take (l .n) (l .row))) (l .at) (omega arith) is (omega (arith, tags st (l .row) (l .n) (l .inv .2) (l .inv .3))) (omega arith))
 
 shared-slice-read-tag : tie.Need-shared-slice-read-tag Inv-loop μ-loop
 shared-slice-read-tag c = search needs
@@ -68,7 +76,7 @@ returns-4 c =
     let s = st .args .s .now in
     let is : getD s (l .at) 0 ≡ 0x22 = search needs in
     tags-refused s (st .args .from) (st .args .k) (st .args .most) (l .row) (l .inv .3) 4 (l .at + 1)
-    (λ lim r rs e. l .inv .4 lim r rs e ∙ tag-high lim s (st .args .k) r rs (l .row) (l .n) (l .at) (omega (arith, l .inv .2, l .inv .3, st .pre .2)) (omega arith) is (omega arith) (omega arith) (omega arith))
+    (λ lim r rs e. l .inv .4 lim r rs e ∙ tag-high lim s (st .args .k) r rs (plain (take (l .n) (l .row))) (l .at) (omega arith) is (omega (arith, tags st (l .row) (l .n) (l .inv .2) (l .inv .3))) (omega arith) (omega arith))
 
 element-write-row : tie.Need-element-write-row Inv-loop μ-loop
 element-write-row c = search needs
@@ -93,7 +101,8 @@ loop-again c =
       omega arith,
       omega arith,
       length-set (l .row) (l .n) tag ∙ l .inv .3,
-      λ lim r rs e. l .inv .4 lim r rs e ∙ tag-taken lim s (st .args .k) r rs (l .row) (l .n) (l .at) (omega (arith, l .inv .2, l .inv .3, st .pre .2)) (omega arith) is (omega arith) (omega (arith, l .inv .3, st .pre .2)) (omega arith) (omega arith),
+      λ lim r rs e. l .inv .4 lim r rs e ∙ tag-taken lim s (st .args .k) r rs (plain (take (l .n) (l .row))) (l .at) (omega arith) is (omega (arith, tags st (l .row) (l .n) (l .inv .2) (l .inv .3))) (omega arith) (omega arith)
+          ∙ ap (λ (u : List Class). readTags lim s (st .args .k) r rs u (l .at + 2)) (plain-more (l .row) (l .n) tag (omega (arith, l .inv .3, st .pre .2))),
     )
 
 returns-5 : tie.Need-returns-5 Inv-loop μ-loop

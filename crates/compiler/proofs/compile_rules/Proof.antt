@@ -19,7 +19,7 @@ use Rattle.compiler.proofs.compile_read.Reads as compile-read-reads
 use Rattle.endings.proofs.bad_end.Reads as bad-end-reads
 
 abbrev the-arrays : tie.Start → Arrays
-the-arrays st = holding (st .args .rows .now) (st .args .lengths .now) (st .args .heads .now)
+the-arrays st = holding (st .args .rows .now) (st .args .lengths .now) (st .args .heads .now) (st .args .sets .now)
 
 abbrev cascade : tie.Start → Cascade
 cascade st = cascadeOf (st .args .k) (the-arrays st) (st .args .m)

@@ -1,21 +1,20 @@
 -- `compiler::compile_within` meets its contract.
 use native.Mathlib.Omega.{arith}
 use borrow.Author.Needs.{needs}
-use mathlib.Core.Path.{refl}
+use mathlib.Core.Path.{_≡_, refl}
 use lib.ListN.{length}
 use Rattle.answers.specs.Outcome.{nothing}
 use Rattle.answers.specs.declared.Refusal.the-variants.{Bare}
 use Rattle.compilation.specs.Compile.{tested}
-use Rattle.books.specs.Arrays.{holding}
-use Rattle.books.proofs.Arrays.{fresh-shaped}
+use Rattle.books.proofs.Arrays.{no-rows, zero-rows}
+use Rattle.books.proofs.Resume.{if-met, if-not-met, never-met}
 use Rattle.answers.specs.declared.CompileAnswer.{CompileAnswer}
-use Rattle.compiler.proofs.Reading.{refused-ended, too-low, too-high, book-refused, read-readable, book-ended}
+use Rattle.compiler.proofs.Reading.{refused-ended, too-low, too-high, again-ended}
 use Rattle.compiler.proofs.compile_within.Statement.{statement}
 use Rattle.compiler.proofs.compile_within.Tie as tie
 use Rattle.compiler.proofs.compile_within.Reads as reads
 use Rattle.compiler.proofs.compile_within.Lts as lts
-use Rattle.reader.proofs.read_into.Reads as read-into-reads
-use Rattle.compiler.proofs.compile_rules.Reads as compile-rules-reads
+use Rattle.compiler.proofs.compile_book.Reads as compile-book-reads
 
 returns : tie.Need-returns
 returns c =
@@ -31,31 +30,17 @@ returns-2 c =
     let n = length (a .work .now) in
     refused-ended (a .lim) (tested (a .lim) (a .book .now) (a .end) (a .ceiling) n) (a .ceiling) 8 nothing (too-high (a .lim) (st .pre) (a .book .now) (a .end) (a .ceiling) n (omega arith) (omega arith)) (CompileAnswer.Refused (Bare 8)) refl (a .work .now) (a .out .now)
 
-read-into-requires : tie.Need-read-into-requires
-read-into-requires c κs = (fresh-shaped, c .before .before .before .before .before .before .before .before .pre)
+slice-aggregate-compile-book : tie.Need-slice-aggregate-compile-book
+slice-aggregate-compile-book c = search needs
 
-enum-known-got : tie.Need-enum-known-got
-enum-known-got c = search needs
+compile-book-requires : tie.Need-compile-book-requires
+compile-book-requires c κs = (c .before .before .before .before .before .before .before .before .before .pre, omega (arith, c .before .before .before .before .before .if1 .left), omega (arith, c .before .before .before .before .if2 .left), no-rows, refl)
 
-enum-known-got-2 : tie.Need-enum-known-got-2
-enum-known-got-2 c = search needs
+slice-aggregate-compile-book-2 : tie.Need-slice-aggregate-compile-book-2
+slice-aggregate-compile-book-2 c = search needs
 
-compile-rules-requires : tie.Need-compile-rules-requires
-compile-rules-requires c κs =
-    let st = c .before .before .before .before .before .before .before .before .before .before .before .before .before .before .before .before .before in
-    let a = st .args in
-    let r = c .before .before .before .before .before .before .before .before .read-into in
-    let held = holding (r .last .1 .0) (r .last .1 .1 .0) (r .last .1 .1 .1 .0) in
-    let book = c .before .before .before .before .before .before .got2 .given in
-    read-readable (a .lim) (st .pre) (a .book .now) (a .end) (a .ceiling) (length (a .work .now)) (omega (arith, c .before .before .before .before .before .before .before .before .before .before .before .before .before .if1 .left)) (omega (arith, c .before .before .before .before .before .before .before .before .before .before .before .before .if2 .left)) held (r .result) (r .ensures) (book .0 .0) (book .0 .1 .0) (book .1)
-
-returns-3 : tie.Need-returns-3
-returns-3 c =
-    let st = c .before .before .before .before .before .before .before .before .before .before .before .before in
-    let a = st .args in
-    let r = c .before .before .before .read-into in
-    let held = holding (r .last .1 .0) (r .last .1 .1 .0) (r .last .1 .1 .1 .0) in
-    book-refused (a .lim) (st .pre) (a .book .now) (a .end) (a .ceiling) (length (a .work .now)) (omega arith) (omega arith) held (r .result) (r .ensures) _ (c .before .got .given .1) (CompileAnswer.Refused (c .before .got .given .0 .0)) refl (a .work .now) (a .out .now)
+compile-book-requires-2 : tie.Need-compile-book-requires-2
+compile-book-requires-2 c κs = (c .before .before .before .before .before .before .before .before .before .before .before .before .before .before .before .before .before .before .before .before .pre, omega (arith, c .before .before .before .before .before .before .before .before .before .before .before .before .before .before .before .before .if1 .left), omega (arith, c .before .before .before .before .before .before .before .before .before .before .before .before .before .before .before .if2 .left), zero-rows, refl)
 
 same-length : tie.Need-same-length
 same-length c = search needs
@@ -63,14 +48,23 @@ same-length c = search needs
 same-length-2 : tie.Need-same-length-2
 same-length-2 c = search needs
 
+returns-3 : tie.Need-returns-3
+returns-3 c =
+    let a = c .before .before .before .before .before .before .before .before .before .before .before .before .before .before .before .before .before .before .before .before .before .before .before .before .before .before .args in
+    let first = c .before .before .before .before .before .before .before .before .before .before .before .before .before .before .before .before .compile-book in
+    let kept = if-met _ _ _ (c .before .before .before .before .before .before .before .before .before .before .if3 .taken) (first .ensures) in
+    let u = c .before .before .before .before .before .compile-book2 in
+    again-ended (a .lim) (a .book .now) (a .end) (a .ceiling) (first .last .1 .1 .1 .0) (a .work .now) _ (first .last .1 .1 .1 .1 .0) (a .out .now) _ _ (kept .1) (kept .2)
+    (never-met 16 (u .last .1 .1 .1 .0 ≡ first .last .1 .1 .1 .0) (u .last .1 .1 .1 .1 .0 ≡ first .last .1 .1 .1 .1 .0) _ (u .last .1 .1 .1 .1 .1 .1 .0) (λ e. omega (arith, e)) (u .ensures))
+
+same-length-3 : tie.Need-same-length-3
+same-length-3 c = search needs
+
+same-length-4 : tie.Need-same-length-4
+same-length-4 c = search needs
+
 returns-4 : tie.Need-returns-4
-returns-4 c =
-    let st = c .before .before .before .before .before .before .before .before .before .before .before .before .before .before .before .before .before .before .before .before .before .before in
-    let a = st .args in
-    let r = c .before .before .before .before .before .before .before .before .before .before .before .before .before .read-into in
-    let held = holding (r .last .1 .0) (r .last .1 .1 .0) (r .last .1 .1 .1 .0) in
-    let book = c .before .before .before .before .before .before .before .before .before .before .before .got2 .given in
-    book-ended (a .lim) (st .pre) (a .book .now) (a .end) (a .ceiling) (length (a .work .now)) (omega (arith, c .before .before .before .before .before .before .before .before .before .before .before .before .before .before .before .before .before .before .if1 .left)) (omega (arith, c .before .before .before .before .before .before .before .before .before .before .before .before .before .before .before .before .before .if2 .left)) held (r .result) (r .ensures) (book .0 .0) (book .0 .1 .0) (book .1) _ _ _ _ _ refl (c .before .before .before .before .compile-rules .ensures)
+returns-4 c = if-not-met _ _ _ (c .if3 .left) (c .before .before .before .before .before .before .compile-book .ensures)
 
 pub compile-within-spec : {M : Type 1} → statement M
 compile-within-spec =
@@ -78,11 +72,13 @@ compile-within-spec =
     (tie.spec
     returns
     returns-2
-    read-into-requires
-    enum-known-got
-    enum-known-got-2
-    compile-rules-requires
-    returns-3
+    slice-aggregate-compile-book
+    compile-book-requires
+    slice-aggregate-compile-book-2
+    compile-book-requires-2
     same-length
     same-length-2
+    returns-3
+    same-length-3
+    same-length-4
     returns-4)

@@ -12,7 +12,7 @@ use Rattle.endings.proofs.bad_end.Lts as lts
 use Rattle.endings.proofs.some_misuses.Reads as some-misuses-reads
 
 abbrev cascade : tie.Start → Cascade
-cascade st = ending (st .args .end) (cascadeOf (st .args .k) (holding (st .args .rows .now) (st .args .lengths .now) (st .args .heads .now)) (st .args .m))
+cascade st = ending (st .args .end) (cascadeOf (st .args .k) (holding (st .args .rows .now) (st .args .lengths .now) (st .args .heads .now) (st .args .sets .now)) (st .args .m))
 
 returns : tie.Need-returns
 returns c = bad-none (cascade (c .before)) (c .if1 .taken)

@@ -3,22 +3,24 @@ use Prim.Native.Nat.{_-_, _≤_}
 use native.Mathlib.Omega.{arith}
 use mathlib.Core.Path.{_≡_, refl}
 use borrow.Author.Needs.{needs}
-use lib.ListN.{length, drop}
+use lib.ListN.{drop}
+use Rattle.cascades.specs.Pattern.{plain}
 use Rattle.cascades.specs.Ending.{before}
-use Rattle.endings.proofs.Ending.{before-empty, before-end, before-hit, before-miss}
+use Rattle.cascades.proofs.Pattern.{plain-length}
+use Rattle.endings.proofs.Ending.{before-empty, before-end, before-hit, before-miss, plain-hit, plain-miss}
 use Rattle.endings.proofs.stands_before.Statement.{statement}
 use Rattle.endings.proofs.stands_before.Tie as tie
 use Rattle.endings.proofs.stands_before.Reads as reads
 use Rattle.endings.proofs.stands_before.Lts as lts
 
 abbrev Inv-loop : tie.InvT-loop
-Inv-loop u end last i₀ i = (i ≤ last) × (before end (drop i u) ≡ before end u)
+Inv-loop u end last i₀ i = (i ≤ last) × (before end (drop i (plain u)) ≡ before end (plain u))
 
 abbrev μ-loop : tie.MeasureT-loop
 μ-loop u end last i₀ i = last - i
 
 returns : tie.Need-returns Inv-loop μ-loop
-returns c = let a = c .before .args in before-empty (a .end) (a .u .now) (omega arith)
+returns c = let a = c .before .args in before-empty (a .end) (plain (a .u .now)) (omega (arith, plain-length (a .u .now)))
 
 sub-last : tie.Need-sub-last Inv-loop μ-loop
 sub-last c = search needs
@@ -33,7 +35,7 @@ returns-2 : tie.Need-returns-2 Inv-loop μ-loop
 returns-2 c =
     let at = c .before .before .before in
     let a = at .before .before .args in
-    before-hit (a .end) (a .u .now) (at .loop .i) (at .loop .inv .1) (omega arith) (c .if2 .taken)
+    before-hit (a .end) (plain (a .u .now)) (at .loop .i) (at .loop .inv .1) (omega (arith, plain-length (a .u .now))) (plain-hit (a .u .now) (at .loop .i) (a .end) (c .if2 .taken))
 
 add-i : tie.Need-add-i Inv-loop μ-loop
 add-i c = search needs
@@ -45,13 +47,13 @@ loop-again : tie.Need-loop-again Inv-loop μ-loop
 loop-again c =
     let at = c .before .before .before in
     let a = at .before .before .args in
-    (omega arith, before-miss (a .end) (a .u .now) (at .loop .i) (at .loop .inv .1) (omega arith) (c .if2 .left))
+    (omega arith, before-miss (a .end) (plain (a .u .now)) (at .loop .i) (at .loop .inv .1) (omega (arith, plain-length (a .u .now))) (plain-miss (a .u .now) (at .loop .i) (a .end) (c .if2 .left)))
 
 returns-3 : tie.Need-returns-3 Inv-loop μ-loop
 returns-3 c =
     let at = c .before in
     let a = at .before .before .args in
-    before-end (a .end) (a .u .now) (at .loop .i) (at .loop .inv .1) (omega arith)
+    before-end (a .end) (plain (a .u .now)) (at .loop .i) (at .loop .inv .1) (omega (arith, plain-length (a .u .now)))
 
 pub stands-before-spec : {M : Type 1} → statement M
 stands-before-spec =

@@ -7,8 +7,6 @@ use Rattle.cascades.specs.Value.{kindOf}
 use Rattle.minimal.specs.OneRule.{states}
 use Rattle.matcher.proofs.count_states.Statement.{statement}
 use Rattle.matcher.proofs.count_states.Tie as tie
-use Rattle.matcher.proofs.count_states.Reads as reads
-use Rattle.matcher.proofs.count_states.Lts as lts
 
 returns : tie.Need-returns
 returns c = search needs

@@ -7,10 +7,6 @@ use Prim.Native.Nat.{_<_}
 use borrow.Author.Needs.{needs}
 use Rattle.matcher.proofs.next_of.Statement.{statement}
 use Rattle.matcher.proofs.next_of.Tie as tie
-use Rattle.matcher.proofs.next_of.Reads as reads
-use Rattle.matcher.proofs.next_of.Lts as lts
-use Rattle.words.proofs.wide.Reads as wide-reads
-use Rattle.workspace.proofs.get.Reads as get-reads
 
 returns : tie.Need-returns
 returns c = let a = c .before .before .before .args in goes-end (a .u .now) (a .j) (a .a) (c .if1 .taken)

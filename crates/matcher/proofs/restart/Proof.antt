@@ -2,8 +2,6 @@
 use Rattle.matcher.proofs.Next.{restarts-end, restarts-none, restarts-next}
 use Rattle.matcher.proofs.restart.Statement.{statement}
 use Rattle.matcher.proofs.restart.Tie as tie
-use Rattle.matcher.proofs.restart.Reads as reads
-use Rattle.matcher.proofs.restart.Lts as lts
 
 returns : tie.Need-returns
 returns c = let a = c .before .args in restarts-end (a .count) (a .end) (a .a) (a .next) (c .if1 .taken)

@@ -1,15 +1,11 @@
-use Rattle.onerule.proofs.Afresh.{roomy-afresh}
+use Rattle.onerule.proofs.Words.{roomy-lengths}
 use Rattle.workspace.proofs.Holds.{stepping-end}
-use Rattle.onerule.specs.Rule.{afresh}
+use Rattle.onerule.specs.Rule.{byLengths, afresh}
 use native.Mathlib.Omega.{arith}
 use Prim.Native.Nat.{_+_}
 use borrow.Author.Needs.{needs}
 use Rattle.onerule.proofs.write_state.Statement.{statement}
 use Rattle.onerule.proofs.write_state.Tie as tie
-use Rattle.onerule.proofs.write_state.Reads as reads
-use Rattle.onerule.proofs.write_state.Lts as lts
-use Rattle.onerule.proofs.write_steps.Reads as write-steps-reads
-use Rattle.outputs.proofs.write_final.Reads as write-final-reads
 
 add-write-steps : tie.Need-add-write-steps
 add-write-steps c = search needs
@@ -33,8 +29,8 @@ same-length c = search needs
 
 returns : tie.Need-returns
 returns c = let st = c .before .before .before .before .before .before .before .before .before .before in let a = st .args in
-    stepping-end (a .g) (a .base + a .j) (afresh (a .count) (a .end) (a .u .now) (a .place) (a .tag)) (a .j) (omega arith)
-    (roomy-afresh (a .u .now) (a .place) (a .tag) (a .g) (a .count) (a .end) (omega arith) (st .pre .0 .place-inside) (st .pre .0 .deep)) _ _ _ (c .before .before .before .before .before .before .write-steps .ensures) (c .before .before .write-final .ensures)
+    stepping-end (a .g) (a .base + a .j) (afresh (a .end) (byLengths (a .count) (a .u .now) (a .place) (a .tag))) (a .j) (omega arith)
+    (roomy-lengths (a .u .now) (a .place) (a .tag) (st .pre .0 .place-inside) (a .g) (st .pre .0 .deep) (a .count) (a .end) (omega arith)) _ _ _ (c .before .before .before .before .before .before .write-steps .ensures) (c .before .before .write-final .ensures)
 
 pub write-state-spec : {M : Type 1} → statement M
 write-state-spec =

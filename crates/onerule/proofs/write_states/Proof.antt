@@ -1,6 +1,6 @@
-use Rattle.onerule.proofs.Afresh.{roomy-afresh}
+use Rattle.onerule.proofs.Words.{roomy-lengths}
 use Rattle.onerule.proofs.Behind.{behind-filling}
-use Rattle.onerule.specs.Rule.{afresh}
+use Rattle.onerule.specs.Rule.{byLengths, afresh}
 use Rattle.workspace.proofs.Holds.{filling-start, filling-next}
 use Rattle.workspace.specs.Holds.{Filling}
 use mathlib.Core.Path.{_≡_, subst}
@@ -9,12 +9,9 @@ use Prim.Native.Nat.{ℕ, _-_, _≤_}
 use borrow.Author.Needs.{needs}
 use Rattle.onerule.proofs.write_states.Statement.{statement}
 use Rattle.onerule.proofs.write_states.Tie as tie
-use Rattle.onerule.proofs.write_states.Reads as reads
-use Rattle.onerule.proofs.write_states.Lts as lts
-use Rattle.onerule.proofs.write_state.Reads as write-state-reads
 
 abbrev Inv-loop : tie.InvT-loop
-Inv-loop work₀ g base u borders place tag end count j₀ work j = (j ≤ count) × Filling g work₀ work base count (afresh count end u place tag) j
+Inv-loop work₀ g base u borders place tag end count j₀ work j = (j ≤ count) × Filling g work₀ work base count (afresh end (byLengths count u place tag)) j
 
 abbrev μ-loop : tie.MeasureT-loop
 μ-loop work₀ g base u borders place tag end count j₀ work j = count - j
@@ -22,7 +19,7 @@ abbrev μ-loop : tie.MeasureT-loop
 loop-holds : tie.Need-loop-holds Inv-loop μ-loop
 loop-holds c = let st = c .before .before .before in let a = st .args in (
   omega arith,
-  filling-start (a .g) (a .base) _ (afresh (a .count) (a .end) (a .u .now) (a .place) (a .tag)) (roomy-afresh (a .u .now) (a .place) (a .tag) (a .g) (a .count) (a .end) (st .pre .1 .0 .2) (st .pre .0 .place-inside) (st .pre .0 .deep)) (omega arith) (a .work .now),
+  filling-start (a .g) (a .base) _ (afresh (a .end) (byLengths (a .count) (a .u .now) (a .place) (a .tag))) (roomy-lengths (a .u .now) (a .place) (a .tag) (st .pre .0 .place-inside) (a .g) (st .pre .0 .deep) (a .count) (a .end) (st .pre .1 .0 .2)) (omega arith) (a .work .now),
 )
 
 mul-write-state : tie.Need-mul-write-state Inv-loop μ-loop
@@ -49,7 +46,7 @@ loop-less c = search needs
 loop-again : tie.Need-loop-again Inv-loop μ-loop
 loop-again c = let st = c .before .before .before .before .before .before .before .before .before .before in let a = st .args in (
   omega arith,
-  filling-next (a .g) (a .base) (a .count) (afresh (a .count) (a .end) (a .u .now) (a .place) (a .tag)) (roomy-afresh (a .u .now) (a .place) (a .tag) (a .g) (a .count) (a .end) (st .pre .1 .0 .2) (st .pre .0 .place-inside) (st .pre .0 .deep)) (omega arith) _ _ _ _ (omega arith) (c .before .before .before .before .before .before .loop .inv .1) (c .before .before .write-state .ensures),
+  filling-next (a .g) (a .base) (a .count) (afresh (a .end) (byLengths (a .count) (a .u .now) (a .place) (a .tag))) (roomy-lengths (a .u .now) (a .place) (a .tag) (st .pre .0 .place-inside) (a .g) (st .pre .0 .deep) (a .count) (a .end) (st .pre .1 .0 .2)) (omega arith) _ _ _ _ (omega arith) (c .before .before .before .before .before .before .loop .inv .1) (c .before .before .write-state .ensures),
 )
 
 same-length : tie.Need-same-length Inv-loop μ-loop
@@ -60,7 +57,7 @@ returns c =
     let a = c .before .before .before .before .before .args in
     let l = c .before .loop in
     let all : l .j ≡ a .count = omega arith in
-    subst (λ (j : ℕ). Filling (a .g) (a .work .now) (l .work) (a .base) (a .count) (afresh (a .count) (a .end) (a .u .now) (a .place) (a .tag)) j) all (l .inv .1)
+    subst (λ (j : ℕ). Filling (a .g) (a .work .now) (l .work) (a .base) (a .count) (afresh (a .end) (byLengths (a .count) (a .u .now) (a .place) (a .tag))) j) all (l .inv .1)
 
 pub write-states-spec : {M : Type 1} → statement M
 write-states-spec =

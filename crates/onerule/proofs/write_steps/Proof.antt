@@ -1,6 +1,6 @@
-use Rattle.onerule.proofs.Afresh.{roomy-afresh}
+use Rattle.onerule.proofs.Words.{roomy-lengths}
 use Rattle.matcher.proofs.Next.{behind-kept}
-use Rattle.onerule.specs.Rule.{afresh}
+use Rattle.onerule.specs.Rule.{byLengths, afresh}
 use Rattle.workspace.proofs.Holds.{stepping-start, stepping-next}
 use Rattle.workspace.specs.Holds.{Stepping}
 use native.Mathlib.Omega.{arith}
@@ -9,12 +9,9 @@ use Prim.Native.Nat.{_-_, _≤_, ℕ}
 use borrow.Author.Needs.{needs}
 use Rattle.onerule.proofs.write_steps.Statement.{statement}
 use Rattle.onerule.proofs.write_steps.Tie as tie
-use Rattle.onerule.proofs.write_steps.Reads as reads
-use Rattle.onerule.proofs.write_steps.Lts as lts
-use Rattle.onerule.proofs.write_step.Reads as write-step-reads
 
 abbrev Inv-loop : tie.InvT-loop
-Inv-loop work₀ g r back u place tag end count j tags a₀ work a = (a ≤ g .tags) × Stepping g work₀ work r (afresh count end u place tag) j a
+Inv-loop work₀ g r back u place tag end count j tags a₀ work a = (a ≤ g .tags) × Stepping g work₀ work r (afresh end (byLengths count u place tag)) j a
 
 abbrev μ-loop : tie.MeasureT-loop
 μ-loop work₀ g r back u place tag end count j tags a₀ work a = tags - a
@@ -22,7 +19,7 @@ abbrev μ-loop : tie.MeasureT-loop
 loop-holds : tie.Need-loop-holds Inv-loop μ-loop
 loop-holds c = let st = c .before .before in let a = st .args in (
   omega arith,
-  stepping-start (a .g) (a .r) (afresh (a .count) (a .end) (a .u .now) (a .place) (a .tag)) (a .j) (omega arith) (roomy-afresh (a .u .now) (a .place) (a .tag) (a .g) (a .count) (a .end) (omega arith) (st .pre .0 .place-inside) (st .pre .0 .deep)) (a .work .now),
+  stepping-start (a .g) (a .r) (afresh (a .end) (byLengths (a .count) (a .u .now) (a .place) (a .tag))) (a .j) (omega arith) (roomy-lengths (a .u .now) (a .place) (a .tag) (st .pre .0 .place-inside) (a .g) (st .pre .0 .deep) (a .count) (a .end) (omega arith)) (a .work .now),
 )
 
 write-step-requires : tie.Need-write-step-requires Inv-loop μ-loop
@@ -40,7 +37,7 @@ loop-less c = search needs
 loop-again : tie.Need-loop-again Inv-loop μ-loop
 loop-again c = let st = c .before .before .before .before .before .before .before .before in let a = st .args in (
   omega arith,
-  stepping-next (a .g) (a .r) (afresh (a .count) (a .end) (a .u .now) (a .place) (a .tag)) (a .j) (omega arith) (roomy-afresh (a .u .now) (a .place) (a .tag) (a .g) (a .count) (a .end) (omega arith) (st .pre .0 .place-inside) (st .pre .0 .deep)) _ _ _ _ (omega arith) (c .before .before .before .before .before .loop .inv .1) (c .before .before .write-step .ensures),
+  stepping-next (a .g) (a .r) (afresh (a .end) (byLengths (a .count) (a .u .now) (a .place) (a .tag))) (a .j) (omega arith) (roomy-lengths (a .u .now) (a .place) (a .tag) (st .pre .0 .place-inside) (a .g) (st .pre .0 .deep) (a .count) (a .end) (omega arith)) _ _ _ _ (omega arith) (c .before .before .before .before .before .loop .inv .1) (c .before .before .write-step .ensures),
 )
 
 same-length : tie.Need-same-length Inv-loop μ-loop
@@ -48,7 +45,7 @@ same-length c = c .before .loop .inv .1 .kept .long
 
 returns : tie.Need-returns Inv-loop μ-loop
 returns c = let a = c .before .before .before .before .args in let e : c .before .loop .a ≡ a .g .tags = omega arith in
-    subst (λ (n : ℕ). Stepping (a .g) (a .work .now) (c .before .loop .work) (a .r) (afresh (a .count) (a .end) (a .u .now) (a .place) (a .tag)) (a .j) n) e (c .before .loop .inv .1)
+    subst (λ (n : ℕ). Stepping (a .g) (a .work .now) (c .before .loop .work) (a .r) (afresh (a .end) (byLengths (a .count) (a .u .now) (a .place) (a .tag))) (a .j) n) e (c .before .loop .inv .1)
 
 pub write-steps-spec : {M : Type 1} → statement M
 write-steps-spec =

@@ -5,10 +5,6 @@ use Prim.Native.Nat.{_-_}
 use borrow.Author.Needs.{needs}
 use Rattle.outputs.proofs.push_part.Statement.{statement}
 use Rattle.outputs.proofs.push_part.Tie as tie
-use Rattle.outputs.proofs.push_part.Reads as reads
-use Rattle.outputs.proofs.push_part.Lts as lts
-use Rattle.words.proofs.wide.Reads as wide-reads
-use Rattle.workspace.proofs.push.Reads as push-reads
 
 abbrev Inv-loop : tie.InvT-loop
 Inv-loop work₀ g r c s u from to i₀ work i = Appending g work₀ work u from to r c s i

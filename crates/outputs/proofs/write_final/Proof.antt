@@ -8,10 +8,6 @@ use native.Mathlib.Omega.{arith}
 use borrow.Author.Needs.{needs}
 use Rattle.outputs.proofs.write_final.Statement.{statement}
 use Rattle.outputs.proofs.write_final.Tie as tie
-use Rattle.outputs.proofs.write_final.Reads as reads
-use Rattle.outputs.proofs.write_final.Lts as lts
-use Rattle.outputs.proofs.push_part.Reads as push-part-reads
-use Rattle.workspace.proofs.clear.Reads as clear-reads
 
 clear-requires : tie.Need-clear-requires
 clear-requires c κs = search needs

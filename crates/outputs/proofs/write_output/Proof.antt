@@ -1,5 +1,4 @@
 -- `outputs::write_output` meets its contract.
-use Rattle.matcher.proofs.Next.{goes-le}
 use Rattle.outputs.proofs.Words.{says-end, says-match, says-short, says-back-all}
 use Rattle.workspace.proofs.Words.{more-size, written-more, written-is}
 use Rattle.workspace.proofs.Appending.{part-length}
@@ -12,12 +11,6 @@ use native.Mathlib.Omega.{arith}
 use borrow.Author.Needs.{needs}
 use Rattle.outputs.proofs.write_output.Statement.{statement}
 use Rattle.outputs.proofs.write_output.Tie as tie
-use Rattle.outputs.proofs.write_output.Reads as reads
-use Rattle.outputs.proofs.write_output.Lts as lts
-use Rattle.outputs.proofs.push_part.Reads as push-part-reads
-use Rattle.words.proofs.wide.Reads as wide-reads
-use Rattle.workspace.proofs.clear.Reads as clear-reads
-use Rattle.workspace.proofs.push.Reads as push-reads
 
 clear-requires : tie.Need-clear-requires
 clear-requires c κs = search needs
@@ -29,7 +22,7 @@ same-length : tie.Need-same-length
 same-length c = search needs
 
 returns : tie.Need-returns
-returns c = let a = c .before .before .before .before .before .before .before .before .before .before .before .args in written-is (a .g) _ _ _ _ _ _ _ (says-end (a .u .now) (a .place) (a .tag) (a .j) (a .a) (c .before .before .before .before .if1 .taken)) (written-more (a .g) _ _ _ _ _ _ _ _ (c .before .before .before .before .before .before .before .clear .ensures) (c .before .before .push .ensures))
+returns c = let a = c .before .before .before .before .before .before .before .before .before .before .before .args in written-is (a .g) _ _ _ _ _ _ _ (says-end (a .u .now) (a .place) (a .tag) (a .j) (a .a) (a .next) (c .before .before .before .before .if1 .taken)) (written-more (a .g) _ _ _ _ _ _ _ _ (c .before .before .before .before .before .before .before .clear .ensures) (c .before .before .push .ensures))
 
 wide-requires : tie.Need-wide-requires
 wide-requires c κs = search needs
@@ -48,27 +41,27 @@ same-length-2 c = search needs
 
 returns-2 : tie.Need-returns-2
 returns-2 c = let a = c .before .before .before .before .before .before .before .before .before .before .before .before .before .before .before .before .before .args in
-    written-is (a .g) _ _ _ _ _ _ _ (ap {B = List ℕ} (λ (x : ℕ). x ∷ part (a .place + 1) (length (a .u .now)) (a .u .now)) (c .before .before .before .before .before .before .before .wide .ensures .0) ∙ says-match (a .u .now) (a .place) (a .tag) (a .j) (a .a) (a .next) (omega arith) (c .before .before .before .before .before .before .before .before .before .before .before .before .before .before .before .before .before .pre .1 .1) (c .before .before .before .before .before .before .before .before .before .before .before .before .before .before .before .before .before .pre .0 .place-inside) (c .before .before .before .before .before .before .before .before .before .if2 .taken))
+    written-is (a .g) _ _ _ _ _ _ _ (ap {B = List ℕ} (λ (x : ℕ). x ∷ part (a .place + 1) (length (a .u .now)) (a .u .now)) (c .before .before .before .before .before .before .before .wide .ensures .0) ∙ says-match (a .u .now) (a .place) (a .tag) (a .j) (a .a) (a .next) (omega arith) (c .before .before .before .before .before .before .before .before .before .before .before .before .before .before .before .before .before .pre .0 .place-inside) (c .before .before .before .before .before .before .before .before .before .if2 .taken))
     (written-more (a .g) _ _ _ _ _ _ _ _ (written-more (a .g) _ _ _ _ _ _ _ _ (c .before .before .before .before .before .before .before .before .before .before .before .before .before .clear .ensures) (c .before .before .before .before .before .before .push2 .ensures)) (c .before .before .push-part .ensures))
 
 add-push-part-2 : tie.Need-add-push-part-2
 add-push-part-2 c = search needs
 
 sub-push-part : tie.Need-sub-push-part
-sub-push-part c = let a = c .before .before .before .before .before .before .before .before .before .before .args in omega (arith, goes-le (a .u .now) (a .j) (a .a) (omega arith))
+sub-push-part c = search needs
 
 add-push-part-3 : tie.Need-add-push-part-3
 add-push-part-3 c = search needs
 
 push-part-requires-2 : tie.Need-push-part-requires-2
-push-part-requires-2 c κs = let a = c .before .before .before .before .before .before .before .before .before .before .args in omega (arith, goes-le (a .u .now) (a .j) (a .a) (omega arith))
+push-part-requires-2 c κs = search needs
 
 same-length-3 : tie.Need-same-length-3
 same-length-3 c = search needs
 
 returns-3 : tie.Need-returns-3
 returns-3 c = let a = c .before .before .before .before .before .before .before .before .before .before .before .before .before .args in
-    written-is (a .g) _ _ _ _ _ _ _ (says-short (a .u .now) (a .place) (a .tag) (a .j) (a .a) (a .next) (omega arith) (c .before .before .before .before .before .before .before .before .before .before .before .before .before .pre .1 .1) (c .before .before .before .before .before .if2 .left) (c .before .before .before .before .if3 .taken))
+    written-is (a .g) _ _ _ _ _ _ _ (says-short (a .u .now) (a .place) (a .tag) (a .j) (a .a) (a .next) (omega arith) (omega arith) (omega arith) (c .before .before .before .before .if3 .taken))
     (written-more (a .g) _ _ _ _ _ _ _ _ (c .before .before .before .before .before .before .before .before .before .clear .ensures) (c .before .before .push-part2 .ensures))
 
 lesser-requires : tie.Need-lesser-requires
@@ -85,7 +78,7 @@ same-length-4 c = search needs
 
 returns-4 : tie.Need-returns-4
 returns-4 c = let a = c .before .before .before .before .before .before .before .before .before .before .before .before .before .before .before .before .before .before .args in
-    written-is (a .g) _ _ _ _ _ _ _ (ap (λ (i : ℕ). part i (a .j) (a .u .now) ++ (a .a ∷ [])) (c .before .before .before .before .before .before .before .lesser .ensures) ∙ says-back-all (a .u .now) (a .place) (a .tag) (a .j) (a .a) (a .next) (omega arith) (c .before .before .before .before .before .before .before .before .before .before .before .before .before .before .before .before .before .before .pre .1 .1) (c .before .before .before .before .before .before .before .before .before .before .if2 .left) (omega arith))
+    written-is (a .g) _ _ _ _ _ _ _ (ap (λ (i : ℕ). part i (a .j) (a .u .now) ++ (a .a ∷ [])) (c .before .before .before .before .before .before .before .lesser .ensures) ∙ says-back-all (a .u .now) (a .place) (a .tag) (a .j) (a .a) (a .next) (omega arith) (omega arith) (omega arith))
     (written-more (a .g) _ _ _ _ _ _ _ _ (written-more (a .g) _ _ _ _ _ _ _ _ (c .before .before .before .before .before .before .before .before .before .before .before .before .before .before .clear .ensures) (c .before .before .before .before .before .before .push-part3 .ensures)) (c .before .before .push3 .ensures))
 
 pub write-output-spec : {M : Type 1} → statement M

@@ -6,7 +6,7 @@ use mathlib.Core.Path.{_≡_, _∙_, sym, ap}
 use native.Mathlib.Nat.{zero-add}
 use lib.ListN.{length, drop}
 use Rattle.words.specs.Word.{prefix}
-use Rattle.cascades.proofs.Rewrite.{same-next, other-next, all-same}
+use Rattle.places.proofs.Places.{same-next, other-next, all-same}
 use Rattle.places.proofs.begins.Statement.{statement}
 use Rattle.places.proofs.begins.Tie as tie
 use Rattle.places.proofs.begins.Reads as reads

@@ -5,9 +5,8 @@ use borrow.Author.Needs.{needs}
 use mathlib.Core.Logic.{⊎-elim}
 use mathlib.Core.Path.{_∙_, sym}
 use lib.ListN.{length}
-use Rattle.cascades.proofs.Rewrite.{first-other}
 use Rattle.places.specs.Places.{Free}
-use Rattle.places.proofs.Places.{all-none, all-more, tag-other}
+use Rattle.places.proofs.Places.{first-other, all-none, all-more, tag-other}
 use Rattle.places.proofs.seek.Statement.{statement}
 use Rattle.places.proofs.seek.Tie as tie
 use Rattle.places.proofs.seek.Reads as reads

@@ -2,33 +2,35 @@
 use borrow.Author.Needs.{needs}
 use Prim.Native.Nat.{_+_, _-_, _≤_, _<_}
 use native.Mathlib.Omega.{arith}
-use mathlib.Core.Path.{_≡_, refl, _∙_, sym, ap}
+use mathlib.Core.Path.{_≡_, refl, _∙_, sym, subst}
+use denote.Enum.Declared.{tagOf}
 use lib.ListN.{length, getD}
 use Rattle.limits.specs.Limits.{most-rules}
 use Rattle.books.specs.Arrays.{holding, Shaped}
-use Rattle.books.specs.Resume.{readCommands, cascadeOutcome}
-use Rattle.books.specs.declared.BookAnswer.{BookAnswer}
+use Rattle.books.specs.Resume.{readCommands, ReadAs}
+use Rattle.books.specs.declared.Reading.{Reading}
+use Rattle.books.proofs.Reading.{the-type}
 use Rattle.books.proofs.Commands.{command-missing}
-use Rattle.books.proofs.Resume.{refused-ends, rule-goes-on, tags-end, tags-go-on}
+use Rattle.books.proofs.Resume.{other-ends, rule-goes-on, pattern-refused, pattern-sets, pattern-goes-on}
 use Rattle.reader.proofs.read_commands.Statement.{statement}
 use Rattle.reader.proofs.read_commands.Tie as tie
 use Rattle.reader.proofs.read_commands.Reads as reads
 use Rattle.reader.proofs.read_commands.Lts as lts
 use Rattle.commands.proofs.end_book.Reads as end-book-reads
-use Rattle.commands.proofs.read_tags.Reads as read-tags-reads
 use Rattle.commands.proofs.refused.Reads as refused-reads
+use Rattle.reader.proofs.read_pattern.Reads as read-pattern-reads
 use Rattle.reader.proofs.read_rule.Reads as read-rule-reads
 
 abbrev Inv-loop : tie.InvT-loop
-Inv-loop s k rows₀ lengths₀ heads₀ lim m₀ at₀ rows lengths heads m at =
-    (m ≤ most-rules) × (at ≤ length s) × (at < length s → getD s at 0 ≡ 0x22 → m ≡ 0) × Shaped (holding rows lengths heads)
-    × (readCommands lim s k m (holding rows lengths heads) at ≡ readCommands lim s k 0 (holding rows₀ lengths₀ heads₀) 2)
+Inv-loop s k rows₀ lengths₀ heads₀ sets₀ lim m₀ at₀ rows lengths heads sets m at =
+    (m ≤ most-rules) × (at ≤ length s) × (at < length s → (getD s at 0 ≡ 0x22 → m ≡ 0) × (getD s at 0 ≡ 0x23 → m ≡ 0)) × Shaped (holding rows lengths heads sets)
+    × (readCommands lim s k m (holding rows lengths heads sets) at ≡ readCommands lim s k 0 (holding rows₀ lengths₀ heads₀ sets₀) 2) × (length sets ≡ length sets₀)
 
 abbrev μ-loop : tie.MeasureT-loop
-μ-loop s k rows₀ lengths₀ heads₀ lim m₀ at₀ rows lengths heads m at = length s - at
+μ-loop s k rows₀ lengths₀ heads₀ sets₀ lim m₀ at₀ rows lengths heads sets m at = length s - at
 
 loop-holds : tie.Need-loop-holds Inv-loop μ-loop
-loop-holds c = let st = c .before in (omega arith, st .pre .1 .0, λ i e. refl, st .pre .0, refl)
+loop-holds c = let st = c .before in (omega arith, st .pre .1 .0 .0, λ i. (λ e. refl, λ e. refl), st .pre .0, refl, refl)
 
 shared-slice-read-command : tie.Need-shared-slice-read-command Inv-loop μ-loop
 shared-slice-read-command c = search needs
@@ -36,109 +38,131 @@ shared-slice-read-command c = search needs
 end-book-requires : tie.Need-end-book-requires Inv-loop μ-loop
 end-book-requires c κs = search needs
 
+same-length : tie.Need-same-length Inv-loop μ-loop
+same-length c = search needs
+
 returns : tie.Need-returns Inv-loop μ-loop
 returns c =
-    let st = c .before .before .before .before .before .before .before .before .before in
-    let l = c .before .before .before .before .before .before .before .loop in
-    record { outcome = c .end-book .ensures (st .args .lim) ∙ l .inv .4; shaped = l .inv .3 }
+    let st = c .before .before .before .before .before .before .before .before .before .before in
+    let l = c .before .before .before .before .before .before .before .before .loop in
+    record { outcome = subst (ReadAs (c .end-book .result) (holding (l .rows) (l .lengths) (l .heads) (l .sets))) (l .inv .4) (c .end-book .ensures (st .args .lim)); shaped = l .inv .3 }
 
 read-rule-requires : tie.Need-read-rule-requires Inv-loop μ-loop
 read-rule-requires c κs =
-    let st = c .before .before .before .before .before .before .before .before in
-    let l = c .before .before .before .before .before .before .loop in
-    (l .inv .3, ((l .inv .0, omega arith, search needs, l .inv .2 (omega arith)), st .pre .1 .1))
+    let st = c .before .before .before .before .before .before .before .before .before in
+    let l = c .before .before .before .before .before .before .before .loop in
+    let others = l .inv .2 (omega arith) in
+    (l .inv .3, ((l .inv .0, omega arith, search needs, others .0, others .1), st .pre .1 .1))
 
 enum-known-got : tie.Need-enum-known-got Inv-loop μ-loop
 enum-known-got c = search needs
 
-enum-told : tie.Need-enum-told Inv-loop μ-loop
-enum-told c = search needs
+same-length-2 : tie.Need-same-length-2 Inv-loop μ-loop
+same-length-2 c = search needs
 
 returns-2 : tie.Need-returns-2 Inv-loop μ-loop
 returns-2 c =
     let st = c .before .before .before .before .before .before .before .before .before .before .before in
     let l = c .before .before .before .before .before .before .before .before .before .loop in
     let s = st .args .s .now in
-    let r = c .before .before .read-rule in
-    refused-ends s _ _ (l .at + 1 + 1 + 1) _ (r .result) _ (c .enum-told .given .1) (r .ensures .0) (l .inv .4)
+    let r = c .before .read-rule in
+    other-ends (tagOf the-type) (λ k m. refl) s _ _ (l .at + 1 + 1 + 1) _ (r .result) (c .match .keys2) (r .ensures .0) (l .inv .4)
 
-add-read-tags : tie.Need-add-read-tags Inv-loop μ-loop
-add-read-tags c = omega (arith, c .before .before .before .read-rule .ensures .0 .inside _ _ (c .before .got .given .1) .1)
+add-read-pattern : tie.Need-add-read-pattern Inv-loop μ-loop
+add-read-pattern c = omega (arith, c .before .before .before .read-rule .ensures .0 .inside _ _ (c .before .got .given .1) .1)
 
-mul-read-tags : tie.Need-mul-read-tags Inv-loop μ-loop
-mul-read-tags c = omega (arith, c .before .before .before .read-rule .ensures .1 .one-more _ _ (c .before .got .given .1) .2)
-
-index-1-read-tags : tie.Need-index-1-read-tags Inv-loop μ-loop
-index-1-read-tags c = c .before .before .before .read-rule .ensures .1 .one-more _ _ (c .before .got .given .1) .2
-
-read-tags-requires : tie.Need-read-tags-requires Inv-loop μ-loop
-read-tags-requires c κs =
-    let st = c .before .before .before .before .before .before .before .before .before .before .before .before .before in
-    let l = c .before .before .before .before .before .before .before .before .before .before .before .loop in
+read-pattern-requires : tie.Need-read-pattern-requires Inv-loop μ-loop
+read-pattern-requires c κs =
+    let st = c .before .before .before .before .before .before .before .before .before .before .before .before .before .before .before .before .before in
+    let l = c .before .before .before .before .before .before .before .before .before .before .before .before .before .before .before .loop in
     let s = st .args .s .now in
-    let r = c .before .before .before .before .read-rule in
-    let book = c .before .before .got .given in
+    let r = c .before .before .before .before .before .before .before .read-rule in
+    let book = c .before .before .before .before .before .got .given in
     let on = rule-goes-on s _ _ (st .args .k) (l .m) (l .at + 1 + 1 + 1) (l .at + 3) _ (r .result) (book .0 .0) (book .0 .1 .0) (r .ensures .0) (r .ensures .1) (book .1) (l .inv .4) (omega arith) in
-    (on .2, on .3 .row-long (l .m) (on .1), st .pre .1 .1 .short-pattern)
+    (on .3, ((on .2, st .pre .1 .0 .1, on .1, on .4, on .5), st .pre .1 .1))
 
-enum-known-tags : tie.Need-enum-known-tags Inv-loop μ-loop
-enum-known-tags c = search needs
+enum-known-pattern : tie.Need-enum-known-pattern Inv-loop μ-loop
+enum-known-pattern c = search needs
 
 refused-requires : tie.Need-refused-requires Inv-loop μ-loop
 refused-requires c κs = search needs
 
+same-length-3 : tie.Need-same-length-3 Inv-loop μ-loop
+same-length-3 c = search needs
+
 returns-3 : tie.Need-returns-3 Inv-loop μ-loop
 returns-3 c =
-    let st = c .before .before .before .before .before .before .before .before .before .before .before .before .before .before .before .before .before .before in
-    let l = c .before .before .before .before .before .before .before .before .before .before .before .before .before .before .before .before .loop in
+    let st = c .before .before .before .before .before .before .before .before .before .before .before .before .before .before .before .before .before .before .before .before .before .before .before in
+    let l = c .before .before .before .before .before .before .before .before .before .before .before .before .before .before .before .before .before .before .before .before .before .loop in
     let s = st .args .s .now in
-    let r = c .before .before .before .before .before .before .before .before .before .read-rule in
-    let book = c .before .before .before .before .before .before .before .got .given in
+    let r = c .before .before .before .before .before .before .before .before .before .before .before .before .before .read-rule in
+    let book = c .before .before .before .before .before .before .before .before .before .before .before .got .given in
     let on = rule-goes-on s _ _ (st .args .k) (l .m) (l .at + 1 + 1 + 1) (l .at + 3) _ (r .result) (book .0 .0) (book .0 .1 .0) (r .ensures .0) (r .ensures .1) (book .1) (l .inv .4) (omega arith) in
-    let tags = c .before .before .before .before .read-tags in
-    let told = c .before .before .tags .given in
-    tags-end (st .args .lim) s (st .args .k) (l .m) (l .at + 3) _ _ _ (tags .result) (on .3) (on .1) (on .4) (tags .ensures) (on .5) (told .0 .0) (told .0 .1 .0) (c .refused .result) (told .1) (c .refused .ensures)
+    let got = c .before .before .before .before .before .read-pattern in
+    let told = c .before .before .pattern .given in
+    pattern-refused (st .args .lim) s (l .at + 3) (st .args .k) (l .m + 1) _ _ _ (got .result) (got .ensures) (on .6) (told .0 .0) (told .0 .1 .0) (c .refused .result) (told .1) (c .refused .ensures)
 
-enum-known-tags-2 : tie.Need-enum-known-tags-2 Inv-loop μ-loop
-enum-known-tags-2 c = search needs
+enum-told : tie.Need-enum-told Inv-loop μ-loop
+enum-told c = search needs
 
-mul-lengths : tie.Need-mul-lengths Inv-loop μ-loop
-mul-lengths c = omega (arith, c .before .before .before .before .before .before .before .before .read-rule .ensures .1 .one-more _ _ (c .before .before .before .before .before .before .got .given .1) .2)
+same-length-4 : tie.Need-same-length-4 Inv-loop μ-loop
+same-length-4 c = search needs
 
-element-write-lengths : tie.Need-element-write-lengths Inv-loop μ-loop
-element-write-lengths c = c .before .before .before .before .before .before .before .before .read-rule .ensures .1 .one-more _ _ (c .before .before .before .before .before .before .got .given .1) .2
+returns-4 : tie.Need-returns-4 Inv-loop μ-loop
+returns-4 c =
+    let st = c .before .before .before .before .before .before .before .before .before .before .before .before .before .before .before .before .before .before .before .before .before in
+    let l = c .before .before .before .before .before .before .before .before .before .before .before .before .before .before .before .before .before .before .before .loop in
+    let s = st .args .s .now in
+    let r = c .before .before .before .before .before .before .before .before .before .before .before .read-rule in
+    let book = c .before .before .before .before .before .before .before .before .before .got .given in
+    let on = rule-goes-on s _ _ (st .args .k) (l .m) (l .at + 1 + 1 + 1) (l .at + 3) _ (r .result) (book .0 .0) (book .0 .1 .0) (r .ensures .0) (r .ensures .1) (book .1) (l .inv .4) (omega arith) in
+    let got = c .before .before .before .read-pattern in
+    pattern-sets (st .args .lim) s (l .at + 3) (st .args .k) (l .m + 1) _ _ _ (got .result) (got .ensures) (on .6) (c .enum-told .given .1)
+
+enum-known-pattern-2 : tie.Need-enum-known-pattern-2 Inv-loop μ-loop
+enum-known-pattern-2 c = search needs
 
 loop-less : tie.Need-loop-less Inv-loop μ-loop
 loop-less c =
-    let inside = c .before .before .before .read-tags .ensures .inside _ _ (c .before .tags2 .given .1) in
+    let inside = c .before .before .before .before .read-pattern .ensures .inside _ (c .before .pattern2 .given .1) in
     omega (arith, inside .0, inside .1)
 
 loop-again : tie.Need-loop-again Inv-loop μ-loop
 loop-again c =
-    let st = c .before .before .before .before .before .before .before .before .before .before .before .before .before .before .before .before .before in
-    let l = c .before .before .before .before .before .before .before .before .before .before .before .before .before .before .before .loop in
+    let st = c .before .before .before .before .before .before .before .before .before .before .before .before .before .before .before .before .before .before .before .before .before .before in
+    let l = c .before .before .before .before .before .before .before .before .before .before .before .before .before .before .before .before .before .before .before .before .loop in
     let s = st .args .s .now in
-    let r = c .before .before .before .before .before .before .before .before .read-rule in
-    let book = c .before .before .before .before .before .before .got .given in
+    let r = c .before .before .before .before .before .before .before .before .before .before .before .before .read-rule in
+    let book = c .before .before .before .before .before .before .before .before .before .before .got .given in
     let on = rule-goes-on s _ _ (st .args .k) (l .m) (l .at + 1 + 1 + 1) (l .at + 3) _ (r .result) (book .0 .0) (book .0 .1 .0) (r .ensures .0) (r .ensures .1) (book .1) (l .inv .4) (omega arith) in
-    let tags = c .before .before .before .read-tags in
-    let told = c .before .tags2 .given in
-    tags-go-on (st .args .lim) s (st .args .k) (l .m) (l .at + 3) _ _ _ (tags .result) (on .3) (on .1) (on .4) (tags .ensures) (on .5) (told .0 .0) (told .0 .1 .0) (book .0 .1 .0) (told .1) (on .0)
+    let got = c .before .before .before .before .read-pattern in
+    let told = c .before .pattern2 .given in
+    let inside = got .ensures .inside _ (told .1) in
+    let other = got .ensures .other _ (told .1) in (
+      omega (arith, on .0, on .1),
+      inside .1,
+      λ i. (λ e. absurd (other i .0 e), λ e. absurd (other i .1 e)),
+      got .ensures .shaped,
+      pattern-goes-on (st .args .lim) s (l .at + 3) (st .args .k) (l .m + 1) _ _ _ (got .result) (got .ensures) (on .6) (told .0 .0) (book .0 .1 .0) (told .1) (on .0),
+      search needs,
+    )
 
 refused-requires-2 : tie.Need-refused-requires-2 Inv-loop μ-loop
 refused-requires-2 c κs = search needs
 
-returns-4 : tie.Need-returns-4 Inv-loop μ-loop
-returns-4 c =
+same-length-5 : tie.Need-same-length-5 Inv-loop μ-loop
+same-length-5 c = search needs
+
+returns-5 : tie.Need-returns-5 Inv-loop μ-loop
+returns-5 c =
     let st = c .before .before .before .before in
     let l = c .before .before .loop in
     let s = st .args .s .now in
-    let a = holding (l .rows) (l .lengths) (l .heads) in
+    let a = holding (l .rows) (l .lengths) (l .heads) (l .sets) in
     record {
       outcome =
-          ap (λ (r : BookAnswer). cascadeOutcome r a) (c .refused2 .ensures)
-          ∙ sym (command-missing (st .args .lim) s (st .args .k) (l .m) a (l .at) (omega arith))
-          ∙ l .inv .4;
+          subst (λ (r : Reading). ReadAs r a (readCommands (st .args .lim) s (st .args .k) 0 (holding (st .args .rows .now) (st .args .lengths .now) (st .args .heads .now) (st .args .sets .now)) 2)) (sym (c .refused2 .ensures))
+          (sym (command-missing (st .args .lim) s (st .args .k) (l .m) a (l .at) (omega arith)) ∙ l .inv .4);
       shaped = l .inv .3;
     }
 
@@ -151,22 +175,24 @@ read-commands-spec =
     loop-holds
     shared-slice-read-command
     end-book-requires
+    same-length
     returns
     read-rule-requires
     enum-known-got
-    enum-told
+    same-length-2
     returns-2
-    add-read-tags
-    mul-read-tags
-    index-1-read-tags
-    read-tags-requires
-    enum-known-tags
+    add-read-pattern
+    read-pattern-requires
+    enum-known-pattern
     refused-requires
+    same-length-3
     returns-3
-    enum-known-tags-2
-    mul-lengths
-    element-write-lengths
+    enum-told
+    same-length-4
+    returns-4
+    enum-known-pattern-2
     loop-less
     loop-again
     refused-requires-2
-    returns-4)
+    same-length-5
+    returns-5)

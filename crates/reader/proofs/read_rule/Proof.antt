@@ -44,10 +44,10 @@ returns-2 : tie.Need-returns-2
 returns-2 c =
     let st = c .before .before .before .before .before in
     let s = st .args .s .now in
-    let a = holding (st .args .rows .now) (st .args .lengths .now) (st .args .heads .now) in
+    let a = holding (st .args .rows .now) (st .args .lengths .now) (st .args .heads .now) (st .args .sets .now) in
     let from = readCommands (st .args .lim) s (st .args .k) (st .args .m) a (st .args .at) in (
       resumes-refused s from (st .args .at + 1 + 1 + 1) a (st .pre .0) (c .refused .result) 1 (st .args .at) (c .refused .ensures)
-          (command-unknown (st .args .lim) s (st .args .k) (st .args .m) a (st .args .at) (st .pre .1 .0 .1) (st .pre .1 .0 .2) (c .before .before .if1 .left) (eqb-false (getD s (st .args .at) 0) 0x24 (c .before .if2 .left)) (st .pre .1 .0 .3)),
+          (command-unknown (st .args .lim) s (st .args .k) (st .args .m) a (st .args .at) (st .pre .1 .0 .1) (st .pre .1 .0 .2) (c .before .before .if1 .left) (eqb-false (getD s (st .args .at) 0) 0x24 (c .before .if2 .left)) (st .pre .1 .0 .3) (st .pre .1 .0 .4)),
       opens-refused (st .args .k) (st .args .m) a (c .refused .result) 1 (st .args .at) (c .refused .ensures),
     )
 

@@ -1,9 +1,9 @@
 -- `rewriting::apply_rule` meets its contract.
 use native.Mathlib.Omega.{arith}
 use mathlib.Core.Path.{_≡_, sym, ap, _∙_}
-use mathlib.Core.List.{List}
+use mathlib.Core.List.{List, []}
 use Prim.Native.Nat.{ℕ}
-use lib.ListN.{length, take}
+use lib.ListN.{length, take, getD}
 use lib.Seq.{length-take-le}
 use borrow.Author.Needs.{needs}
 use Rattle.cascades.specs.Value.{ruleOf}
@@ -16,7 +16,7 @@ use Rattle.rewriting.proofs.apply_rule.Lts as lts
 use Rattle.rewriting.proofs.rewrite.Reads as rewrite-reads
 
 pattern-long : (st : tie.Start) → length (take (st .args .rule .length) (st .args .rule .row)) ≡ st .args .rule .length
-pattern-long st = length-take-le (st .args .rule .length) (st .args .rule .row) (omega (arith, st .pre .0 .row-long, st .pre .0 .length-short))
+pattern-long st = length-take-le (st .args .rule .length) (st .args .rule .row) (omega (arith, st .pre .0 .0 .row-long, st .pre .0 .0 .length-short))
 
 array-share-prefix-row : tie.Need-array-share-prefix-row
 array-share-prefix-row c = search needs
@@ -27,7 +27,7 @@ slice-aggregate-rewrite c = sym (pattern-long (c .before .before .before .before
 rewrite-requires : tie.Need-rewrite-requires
 rewrite-requires c κs =
     let st = c .before .before .before .before .before .before in
-    (omega (arith, pattern-long st, st .pre .1), st .pre .2)
+    (st .pre .0 .1, st .pre .1)
 
 same-length : tie.Need-same-length
 same-length c = search needs
@@ -42,7 +42,7 @@ returns c =
     let w = c .before .before .before .before .rewrite in (
       w .ensures .0,
       w .ensures .1 ∙ ap (λ (y : List ℕ). note (a .x) (a .s .now) y (a .v .now)) (w .ensures .0)
-          ∙ sym (mark-is-note (ruleOf (a .rule)) (omega (arith, pattern-long st, st .pre .1)) (st .pre .2) (a .x) (a .s .now) (a .v .now)),
+          ∙ sym (mark-is-note (ruleOf (a .rule) (getD (a .sets .now) (a .i) [])) (st .pre .1) (a .x) (a .s .now) (a .v .now)),
     )
 
 pub apply-rule-spec : {M : Type 1} → statement M

@@ -26,7 +26,7 @@ use Rattle.running.proofs.write_pieces.Reads as write-pieces-reads
 
 -- the rules, what f makes of the sentence by them, and the outcome of the run
 abbrev cascade : tie.Start → Cascade
-cascade st = cascadeOf (st .args .k) (holding (st .args .rows .now) (st .args .lengths .now) (st .args .heads .now)) (st .args .m)
+cascade st = cascadeOf (st .args .k) (holding (st .args .rows .now) (st .args .lengths .now) (st .args .heads .now) (st .args .sets .now)) (st .args .m)
 
 abbrev made : (Cascade → List ℕ → List ℕ) → tie.Start → List ℕ
 made f st = f (ending (st .args .end) (cascade st)) (st .args .sentence .now)

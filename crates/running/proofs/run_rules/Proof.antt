@@ -19,7 +19,7 @@ use Rattle.running.proofs.write_rules.Reads as write-rules-reads
 
 -- what the rules make of the sentence, and the outcome of the run
 abbrev made : tie.Start → List ℕ
-made st = applyAll (rulesOf (holding (st .args .rows .now) (st .args .lengths .now) (st .args .heads .now)) (st .args .m)) (st .args .sentence .now)
+made st = applyAll (rulesOf (holding (st .args .rows .now) (st .args .lengths .now) (st .args .heads .now) (st .args .sets .now)) (st .args .m)) (st .args .sentence .now)
 
 abbrev outcome : tie.Start → Outcome (List ℕ)
 outcome st = run (st .args .k) (st .args .sentence .now) (length (st .args .out .now)) (made st)

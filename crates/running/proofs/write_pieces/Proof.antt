@@ -81,7 +81,7 @@ returns c =
     let o = c .before .before .before .before .before .before .before .before .before .before .before .copy in
     let x = c .before .before .before .before .before .before .apply-book in
     let n = c .count-changes in
-    let rs = rulesOf (holding (a .rows .now) (a .lengths .now) (a .heads .now)) (a .m) in (
+    let rs = rulesOf (holding (a .rows .now) (a .lengths .now) (a .heads .now) (a .sets .now)) (a .m) in (
       writes (a .sentence .now) (a .out .now) (o .last .1 .0) (x .last .0) (o .ensures) (x .kept .0) (piecewise (a .end) (applyAll rs)) (n .result) (x .ensures .0) (n .ensures),
       numbers-written (a .sentence .now) (a .out .now) (o .last .1 .0) (x .last .0) (o .ensures) (a .v .now) (x .last .1 .0) (l .result) (piecewise (a .end) (numbersOf rs)) (l .ensures) (x .ensures .1),
     )

@@ -55,7 +55,7 @@ returns c =
     let o = c .before .before .before .before .before .before .before .before .before .before .copy in
     let x = c .before .before .before .before .before .apply-rules in
     let n = c .count-changes in
-    let rules = rulesOf (holding (a .rows .now) (a .lengths .now) (a .heads .now)) (a .m) in
+    let rules = rulesOf (holding (a .rows .now) (a .lengths .now) (a .heads .now) (a .sets .now)) (a .m) in
     writes (a .sentence .now) (a .out .now) (o .last .1 .0) (x .last .0) (o .ensures) (x .kept .0) (applyAll rules) (n .result) (x .ensures .0) (n .ensures)
 
 pub write-rules-spec : {M : Type 1} → statement M

@@ -1,0 +1,2 @@
+-- Laws of the matches still alive, as the code keeps them.
+pub mod Alive

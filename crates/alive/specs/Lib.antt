@@ -1,0 +1,2 @@
+-- The matches still alive, as bits.
+pub mod Alive

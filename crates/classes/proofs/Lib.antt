@@ -1,0 +1,2 @@
+-- Laws of patterns with sets.
+pub mod Classes
