@@ -2,8 +2,8 @@
 // transducer as numbers, and where a step leads from each.
 // Time O(1) for a step, after O(k l) for the masks of k tags and a pattern of l places; space is a mask for each tag.
 // Baeza-Yates and Gonnet's shift-and, for 002, definition 2: a state of the string matching automaton is a set of matched lengths.
-use classes::accepts;
-use classes::set_at;
+use cascades::accepts;
+use cascades::set_at;
 use limits::PATTERN;
 use limits::TAGS;
 ghost use mathlib.Core.Path.{_≡_};

@@ -1,8 +1,8 @@
 -- What has gone before, where there is a result: a test that was passed, a part that was read.
 use Prim.Native.Nat.{ℕ}
 use native.Mathlib.Omega.{arith}
-use mathlib.Core.Path.{_≡_, refl, sym}
-use mathlib.Core.Bool.{Bool, true, false, not}
+use mathlib.Core.Path.{_≡_, refl}
+use mathlib.Core.Bool.{Bool, true, false}
 use Rattle.answers.specs.Outcome.{Outcome, result, refused, andThen, provided}
 use Rattle.answers.specs.Answer.{refusal}
 use Rattle.answers.specs.declared.Refusal.{Refusal}
@@ -11,11 +11,6 @@ use Rattle.answers.specs.declared.Refusal.the-variants.{AtByte, AtRule, 
 pub passed : {A : Type 0} (n : ℕ) (b : Bool) (o : Outcome A) (v : A) → provided n b o ≡ result v → (b ≡ true) × (o ≡ result v)
 passed n true o v e = (refl, e)
 passed n false o v e = let z : _≡_ {A = ℕ} 0 1 = cc in absurd (omega arith)
-
--- of a test that was for the contrary
-pub not-true : (b : Bool) → not b ≡ true → b ≡ false
-not-true true e = sym e
-not-true false e = refl
 
 pub same-result : {A : Type 0} (a b : A) → _≡_ {A = Outcome A} (result a) (result b) → a ≡ b
 same-result a b e = cc

@@ -4,16 +4,11 @@ use native.Mathlib.Omega.{arith}
 use native.Mathlib.Numerals.{add-one}
 use mathlib.Core.Path.{_≡_, sym, ap, ap₂, _∙_}
 use mathlib.Core.List.{List, [], _∷_, _++_, reverse-cons}
-use native.Mathlib.Decide.{decLt}
-use lib.ListN.{length, take, drop, getD, replicate, List·getD-eq-default}
+use lib.ListN.{length, take, drop, replicate}
 use lib.Seq.{length-take-le}
 use Rattle.cascades.specs.Rule.{Rule}
-use Rattle.limits.specs.Limits.{longest-pattern}
 use Rattle.cascades.specs.Rewrite.{apply, applyAll}
-use Rattle.cascades.specs.Value.{ruleOf, Formed, SetRow}
-use Rattle.cascades.specs.declared.Rule.{Rule as Value}
 use Rattle.cascades.specs.Spares.{Changes}
-use Rattle.cascades.proofs.Pattern.{last-inside, places-length}
 use Rattle.cascades.proofs.Rewrite.{applyAll-append}
 use Rattle.books.specs.Arrays.{Arrays, ruleAt, rulesDown, rulesOf}
 use Rattle.books.proofs.Arrays.{pattern-long}
@@ -41,7 +36,7 @@ module _ (a : Arrays) (i : ℕ) (r : Rule) (is : r ≡ ruleAt a i) where
       ∙ ap (λ (t : Traced). t .numbers) (sym (trace-snoc 1 (rulesOf a i) r (beside w z)))
       ∙ ap (λ (rs : List Rule). traceFrom 1 rs (beside w z) .numbers) (sym one-more)
 
--- a rule that can be used changes a tag, and its row of sets is there if it has any
+-- a rule that can be used changes a tag
 pub changes-at : (m : ℕ) (a : Arrays) → Usable m a → (i : ℕ) → i < m → Changes (ruleAt a i)
 changes-at m a usable i h =
     record {
@@ -49,26 +44,6 @@ changes-at m a usable i h =
       fixed = usable .plain-from i h;
       new = usable .new i h;
     }
-
-pub set-row : (sets : List (List ℕ)) (i : ℕ) (v : Value) → Formed v (getD sets i []) → (i < length sets → length (getD sets i []) ≡ longest-pattern) → SetRow sets i (v .sets)
-set-row sets i v f long =
-    record {
-      few =
-          omega (
-            arith,
-            f .last-is,
-            last-inside (ruleOf v (getD sets i []) .pattern),
-            places-length (take (v .length) (v .row)) (take (v .sets) (getD sets i [])),
-            length-take-le (v .length) (v .row) (omega (arith, f .row-long, f .length-short)),
-            f .length-short,
-          );
-      there = λ some. by some (decLt i (length sets));
-      long = long;
-    }
-  where
-    by : 0 < v .sets → Dec (i < length sets) → i < length sets
-    by some (yes l) = l
-    by some (no l) = absurd (omega (arith, f .sets-long, ap length (List·getD-eq-default sets [] {n = i} (omega arith))))
 
 -- the numbers of a part of a sentence, where they have as much room as the sentence has tags
 pub numbers-there : (rs : List Rule) (s v x : List ℕ) (r n : ℕ) → r ≤ length s → length s ≤ length v → n ≡ min r (length v)

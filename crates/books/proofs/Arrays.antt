@@ -14,13 +14,12 @@ use Rattle.limits.specs.Limits.{most-rules, longest-pattern}
 use Rattle.cascades.specs.Pattern.{Class, someSet, word, plain}
 use Rattle.cascades.specs.Rule.{Kind, Rule, hasSet, someHasSet}
 use Rattle.cascades.specs.Value.{kindOf, ruleWith, places, lastSet}
-use Rattle.cascades.proofs.Pattern.{word-plain, plain-none, some-from, none-from, last-zero}
+use Rattle.cascades.proofs.Pattern.{word-plain, plain-none, places-length, places-plain, last-none, some-from, none-from, last-zero}
 use Rattle.books.specs.Book.{opener}
 use Rattle.books.specs.Read.{closing, opened}
 use Rattle.books.specs.Arrays.{Arrays, holding, Shaped, placeAt, tagAt, setsAt, rowAt, ruleAt, rulesDown, rulesOf, SetRows}
 use Rattle.books.specs.Resume.{withTags, Placed, faulted}
 use Rattle.books.proofs.Step.{opener-kind}
-use Rattle.books.proofs.Sets.{last-none, places-length, places-plain}
 use Rattle.books.proofs.Some.{none-of}
 
 down-last : (a : Arrays) (m : ℕ) → (m ≡ 0 → ⊥) → rulesDown a m ≡ ruleAt a (m - 1) ∷ rulesDown a (m - 1)

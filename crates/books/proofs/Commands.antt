@@ -8,7 +8,7 @@ use mathlib.Core.List.{List, [], _∷_, _++_}
 use borrow.Author.Tests.{lt-ltb, le-ltb, lt-leb, le-leb, ne-eqb}
 use lib.ListN.{length, getD, drop}
 use lib.Seq.{drop-cons, drop-length}
-use Rattle.limits.specs.Limits.{fewest-tags, most-tags, InRange}
+use Rattle.limits.specs.Limits.{fewest-tags, InRange}
 use Rattle.limits.specs.declared.Limits.{Limits}
 use Rattle.answers.specs.Outcome.{result, refused, nothing, byte, andThen}
 use Rattle.cascades.specs.Pattern.{Class, one, any}
@@ -52,9 +52,9 @@ module _ (lim : Limits) (s : List ℕ) where
     pub book-many : 1 < length s → fewest-tags ≤ getD s 1 0 → lim .tags < getD s 1 0 → read lim s ≡ refused 2 (byte 1)
     book-many l f g = book-opened ∙ read-stop lim s size 1 2 l (cc (le-leb fewest-tags (getD s 1 0) f, lt-leb (getD s 1 0) (lim .tags) g))
 
-    pub book-sized : (a : Arrays) → 1 < length s → fewest-tags ≤ getD s 1 0 → getD s 1 0 ≤ lim .tags → getD s 1 0 ≤ most-tags → read lim s ≡ readCommands lim s (getD s 1 0) 0 a 2
-    book-sized a l f g i =
-        book-opened ∙ read-go lim s size 1 (command (getD s 1 0) []) l (cc (le-leb fewest-tags (getD s 1 0) f, le-leb (getD s 1 0) (lim .tags) g, le-leb (getD s 1 0) most-tags i))
+    pub book-sized : (a : Arrays) → 1 < length s → fewest-tags ≤ getD s 1 0 → getD s 1 0 ≤ lim .tags → read lim s ≡ readCommands lim s (getD s 1 0) 0 a 2
+    book-sized a l f g =
+        book-opened ∙ read-go lim s size 1 (command (getD s 1 0) []) l (cc (le-leb fewest-tags (getD s 1 0) f, le-leb (getD s 1 0) (lim .tags) g))
 
 -- ---- a command
 

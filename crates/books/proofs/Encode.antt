@@ -6,13 +6,13 @@ use mathlib.Core.Path.{_≡_, refl, sym, ap, _∙_, subst}
 use mathlib.Core.Logic.{_↔_}
 use mathlib.Core.Bool.{Bool, true, false, not, _&&_, false≢true}
 use mathlib.Core.List.{List, [], _∷_, _++_, reverse, append-nil, append-assoc, reverse-cons}
-use borrow.Author.Tests.{lt-ltb, le-leb, ne-eqb, ltb-true, leb-true, eqb-true, eqb-false}
+use borrow.Author.Tests.{lt-ltb, le-leb, ne-eqb, ltb-true, leb-true, eqb-true, eqb-false, not-true}
 use lib.Dec.{eqb, leb, ltb}
 use lib.ListN.{length, drop, getD, length-append, length-reverse}
-use Rattle.limits.specs.Limits.{fewest-tags, most-tags, no-end}
+use Rattle.limits.specs.Limits.{fewest-tags, no-end}
 use Rattle.limits.specs.declared.Limits.{Limits}
 use Rattle.answers.specs.Outcome.{Place, Outcome, result, refused, nothing, byte, andThen, provided}
-use Rattle.answers.proofs.Outcome.{passed, not-true}
+use Rattle.answers.proofs.Outcome.{passed}
 use Rattle.words.specs.Word.{Below}
 use Rattle.words.proofs.Word.{below-append}
 use Rattle.cascades.specs.Pattern.{Class, one, any, ones, someSet, word}
@@ -20,7 +20,7 @@ use Rattle.cascades.specs.Rule.{Kind, Rule, SetsBelow, Cascade, ValidRule, Vali
 use Rattle.books.specs.Book.{Valid, bytesOf, encodeClass, opener, encodePattern, encodeRule, encodeRules, encode}
 use Rattle.books.specs.Read.{Stage, opening, size, command, place, new-tag, pattern-tag, set-byte, ended, closed, closing, nextClass, nextRule, below, opened, longer, setByte, step, finish, readFrom, read}
 use Rattle.books.proofs.Step.{Part, tag, set, opens-part, first-of, by-command, step-opens}
-use Rattle.books.proofs.Sets.{bytes-snoc, byte-next, six-enough, word-append, sets-append}
+use Rattle.books.proofs.Sets.{bytes-snoc, byte-next, byte-more, six-enough, word-append, sets-append}
 
 -- ---- encodings are read
 
@@ -66,32 +66,32 @@ module _ (lim : Limits) where
       (ap (λ (t : Bool). provided 1 t (setByte k r rs (suc n) (s / 0x100 ^ suc (suc n) * 0x100 + b))) (lt-ltb b 0x100 (mod-lt (s / 0x100 ^ suc n) (omega arith)))
       ∙ ap (setByte k r rs (suc n)) (byte-next s (suc n))) (accepts-set k r rs s rest c h two f n)
 
-  accepts-pattern : (k : ℕ) (few : k ≤ most-tags) (r : Rule) (rs : List Rule) (u : List Class) (rest : List ℕ) (c : Cascade) → length (r .pattern) + length u ≤ lim .pattern
+  accepts-pattern : (k : ℕ) (r : Rule) (rs : List Rule) (u : List Class) (rest : List ℕ) (c : Cascade) → length (r .pattern) + length u ≤ lim .pattern
       → Below k (word u) → SetsBelow k u → Accepts (command k (with-pattern r (r .pattern ++ u) ∷ rs)) rest c → Accepts (command k (r ∷ rs)) (encodePattern u ++ rest) c
-  accepts-pattern k few r rs [] rest c h b sb f = subst (λ (p : List Class). Accepts (command k (with-pattern r p ∷ rs)) rest c) (append-nil (r .pattern)) f
-  accepts-pattern k few r rs (one a ∷ u) rest c h b sb f =
+  accepts-pattern k r rs [] rest c h b sb f = subst (λ (p : List Class). Accepts (command k (with-pattern r p ∷ rs)) rest c) (append-nil (r .pattern)) f
+  accepts-pattern k r rs (one a ∷ u) rest c h b sb f =
       let n : length (r .pattern) < lim .pattern = omega arith in
       let m : length (r .pattern ++ (one a ∷ [])) + length u ≤ lim .pattern = omega (arith, length-append (r .pattern) (one a ∷ [])) in
       accepts-next (command k (r ∷ rs)) (pattern-tag k r rs) 0x22 (a ∷ (encodePattern u ++ rest)) c (cc (lt-ltb (length (r .pattern)) (lim .pattern) n))
       (accepts-next (pattern-tag k r rs) (command k (longer r (one a) ∷ rs)) a (encodePattern u ++ rest) c (below-go k a (command k (longer r (one a) ∷ rs)) (b .0))
-      (accepts-pattern k few (longer r (one a)) rs u rest c m (b .1) sb
+      (accepts-pattern k (longer r (one a)) rs u rest c m (b .1) sb
       (subst (λ (p : List Class). Accepts (command k (with-pattern r p ∷ rs)) rest c) (sym (append-assoc (r .pattern) (one a ∷ []) u)) f)))
-  accepts-pattern k few r rs (any s ∷ u) rest c h b sb f =
+  accepts-pattern k r rs (any s ∷ u) rest c h b sb f =
       let n : length (r .pattern) < lim .pattern = omega arith in
       let m : length (r .pattern ++ (any s ∷ [])) + length u ≤ lim .pattern = omega (arith, length-append (r .pattern) (any s ∷ [])) in
       let behind : Accepts (command k (longer r (any s) ∷ rs)) (encodePattern u ++ rest) c =
-      accepts-pattern k few (longer r (any s)) rs u rest c m (b .1) (sb .2)
+      accepts-pattern k (longer r (any s)) rs u rest c m (b .1) (sb .3)
       (subst (λ (p : List Class). Accepts (command k (with-pattern r p ∷ rs)) rest c) (sym (append-assoc (r .pattern) (any s ∷ []) u)) f)
       in
       accepts-next (command k (r ∷ rs)) (set-byte k r rs 5 0) 0x23 (bytesOf 6 s ++ (encodePattern u ++ rest)) c (cc (lt-ltb (length (r .pattern)) (lim .pattern) n))
-      (subst (λ (x : ℕ). Accepts (set-byte k r rs 5 x) (bytesOf 6 s ++ (encodePattern u ++ rest)) c) (six-enough s k (sb .0) few)
-      (accepts-set k r rs s (encodePattern u ++ rest) c (sb .0) (sb .1) behind 5))
+      (subst (λ (x : ℕ). Accepts (set-byte k r rs 5 x) (bytesOf 6 s ++ (encodePattern u ++ rest)) c) (six-enough s (sb .0))
+      (accepts-set k r rs s (encodePattern u ++ rest) c (sb .1) (sb .2) behind 5))
 
   -- the commands from a place where the last rule may be closed
-  accepts-rules : (k : ℕ) (few : k ≤ most-tags) (rs more : List Rule) → closing rs ≡ result tt → length rs + length more ≤ lim .rules → ValidRules (lim .pattern) k more
+  accepts-rules : (k : ℕ) (rs more : List Rule) → closing rs ≡ result tt → length rs + length more ≤ lim .rules → ValidRules (lim .pattern) k more
       → Accepts (command k rs) (encodeRules more ++ (0x00 ∷ [])) (cascade k (reverse rs ++ more))
-  accepts-rules k few rs [] z h v = λ at. cc (z, append-nil (reverse rs))
-  accepts-rules k few rs (r ∷ more) z h v =
+  accepts-rules k rs [] z h v = λ at. cc (z, append-nil (reverse rs))
+  accepts-rules k rs (r ∷ more) z h v =
       let c = cascade k (reverse rs ++ (r ∷ more)) in
       let rest : List ℕ = encodeRules more ++ (0x00 ∷ []) in
       let n : length rs < lim .rules = omega arith in
@@ -100,10 +100,10 @@ module _ (lim : Limits) where
       ap (cascade k) (ap (λ (x : List Rule). x ++ more) (reverse-cons r rs) ∙ append-assoc (reverse rs) (r ∷ []) more)
       in
       let rule : Accepts (command k (r ∷ rs)) rest c =
-      subst (Accepts (command k (r ∷ rs)) rest) e (accepts-rules k few (r ∷ rs) more (closed-valid (lim .pattern) k r (v .0)) m (v .1))
+      subst (Accepts (command k (r ∷ rs)) rest) e (accepts-rules k (r ∷ rs) more (closed-valid (lim .pattern) k r (v .0)) m (v .1))
       in
       let pattern : Accepts (command k (opened (r .kind) (r .place) (r .tag) ∷ rs)) (encodePattern (r .pattern) ++ rest) c =
-      accepts-pattern k few (opened (r .kind) (r .place) (r .tag)) rs (r .pattern) rest c (omega (arith, v .0 .short)) (v .0 .pattern-below) (v .0 .sets-below) rule
+      accepts-pattern k (opened (r .kind) (r .place) (r .tag)) rs (r .pattern) rest c (omega (arith, v .0 .short)) (v .0 .pattern-below) (v .0 .sets-below) rule
       in
       let bytes : encodeRule r ++ encodeRules more ++ (0x00 ∷ []) ≡ encodeRule r ++ rest = append-assoc (encodeRule r) (encodeRules more) (0x00 ∷ []) in
       subst (λ (bs : List ℕ). Accepts (command k rs) bs c) (sym bytes)
@@ -121,8 +121,8 @@ module _ (lim : Limits) where
       let same : read-as ≡ c = ap (λ (e : ℕ). ending e c) (sym (v .no-end-tag)) in
       accepts-next opening size 0x20 (k ∷ body) read-as refl
       (accepts-next size (command k []) k body read-as
-      (cc (le-leb fewest-tags k (v .enough-tags), le-leb k (lim .tags) (v .few-tags), le-leb k most-tags (v .six-bytes)))
-      (accepts-rules k (v .six-bytes) [] (c .rules) refl (omega (arith, v .few-rules)) (v .rules-valid))) 0
+      (cc (le-leb fewest-tags k (v .enough-tags), le-leb k (lim .tags) (v .few-tags)))
+      (accepts-rules k [] (c .rules) refl (omega (arith, v .few-rules)) (v .rules-valid))) 0
       ∙ ap result same
 
 -- ---- what is read is an encoding
@@ -225,7 +225,6 @@ module _ (lim : Limits) where
   record Tags (k : ℕ) : Type 0 where
     enough : fewest-tags ≤ k
     few : k ≤ lim .tags
-    six : k ≤ most-tags
 
   abbrev OpenFirst : ℕ → List Rule → Type 0
   OpenFirst k [] = Unit {0}
@@ -240,7 +239,7 @@ module _ (lim : Limits) where
   Shown (new-tag k kind rs p) = Tags k × (length rs < lim .rules) × ValidRules (lim .pattern) k rs
   Shown (pattern-tag k r rs) = Tags k × (length rs < lim .rules) × Open (lim .pattern) k r × (length (r .pattern) < lim .pattern) × ValidRules (lim .pattern) k rs
   Shown (set-byte k r rs n s) =
-      Tags k × (length rs < lim .rules) × Open (lim .pattern) k r × (length (r .pattern) < lim .pattern) × ValidRules (lim .pattern) k rs × (n ≤ 5)
+      Tags k × (length rs < lim .rules) × Open (lim .pattern) k r × (length (r .pattern) < lim .pattern) × ValidRules (lim .pattern) k rs × (n ≤ 5) × (s < 0x100 ^ (5 - n))
   Shown (ended k rs) = Tags k × (length rs ≤ lim .rules) × ValidRules (lim .pattern) k rs
 
   -- a byte that is taken keeps both
@@ -282,7 +281,7 @@ module _ (lim : Limits) where
   command-part set k (r ∷ rs) b h e =
       by-provided (Follows (command k (r ∷ rs)) b) 3 (ltb (length (r .pattern)) (lim .pattern)) (result (set-byte k r rs 5 0))
       (λ t. (
-        (h .0, omega (arith, h .1), h .2 .0, ltb-true (length (r .pattern)) (lim .pattern) t, h .2 .1, omega arith),
+        (h .0, omega (arith, h .1), h .2 .0, ltb-true (length (r .pattern)) (lim .pattern) t, h .2 .1, omega arith, omega arith),
         ap (λ (x : ℕ). 0x20 ∷ k ∷ (down (r ∷ rs) ++ (x ∷ []))) (sym e),
       ))
       tt
@@ -301,27 +300,27 @@ module _ (lim : Limits) where
         (λ four.
         by-provided (Follows (set-byte k r rs 0 s) b) 18 (leb 2 (ones k t)) (result (command k (longer r (any t) ∷ rs)))
         (λ two. (
-          (h .0, h .1, (longer-open (lim .pattern) k r (any t) (h .2) (h .3) (omega (arith, h .0 .enough), tt) (ltb-true t (2 ^ k) four, leb-true 2 (ones k t) two, tt), h .4)),
+          (h .0, h .1, (longer-open (lim .pattern) k r (any t) (h .2) (h .3) (omega (arith, h .0 .enough), tt) (byte-more 5 s b (h .6) small, ltb-true t (2 ^ k) four, leb-true 2 (ones k t) two, tt), h .4)),
           ap (λ (x : List ℕ). 0x20 ∷ k ∷ x) (longer-bytes r rs (any t) ∙ set-bytes 0 6 refl),
         ))
         tt)
         tt
     set-follows (suc n) h =
-        ((h .0, h .1, h .2, h .3, h .4, omega (arith, h .5)), ap (λ (x : List ℕ). 0x20 ∷ k ∷ x) (set-bytes (suc n) (5 - n) (omega (arith, h .5))))
+        let m : 5 - n ≡ suc (5 - suc n) = omega (arith, h .5) in
+        ((h .0, h .1, h .2, h .3, h .4, omega (arith, h .5), rw m (byte-more (5 - suc n) s b (h .6) small)), ap (λ (x : List ℕ). 0x20 ∷ k ∷ x) (set-bytes (suc n) (5 - n) m))
 
   -- every byte that is taken is told, and shows what it was tested for
   step-follows : (s : Stage) (b : ℕ) → Shown s → Follows s b (step lim s b)
   step-follows opening b h = by-provided (Follows opening b) 1 (eqb b 0x20) (result size) (λ e. (tt, ap (λ (x : ℕ). x ∷ []) (sym (eqb-true b 0x20 e)))) tt
   step-follows size b h =
-      by-provided (Follows size b) 2 (leb fewest-tags b && (leb b (lim .tags) && leb b most-tags)) (result (command b []))
-      (λ e. ((both (leb fewest-tags b) (leb b (lim .tags)) (leb b most-tags) refl refl refl e, omega arith, tt), refl))
+      by-provided (Follows size b) 2 (leb fewest-tags b && leb b (lim .tags)) (result (command b []))
+      (λ e. ((both (leb fewest-tags b) (leb b (lim .tags)) refl refl e, omega arith, tt), refl))
       tt
     where
-      both : (s t u : Bool) → leb fewest-tags b ≡ s → leb b (lim .tags) ≡ t → leb b most-tags ≡ u → (s && (t && u)) ≡ true → Tags b
-      both true true true e f i g = record { enough = leb-true fewest-tags b e; few = leb-true b (lim .tags) f; six = leb-true b most-tags i }
-      both true true false e f i g = absurd (false≢true g)
-      both true false u e f i g = absurd (false≢true g)
-      both false t u e f i g = absurd (false≢true g)
+      both : (s t : Bool) → leb fewest-tags b ≡ s → leb b (lim .tags) ≡ t → (s && t) ≡ true → Tags b
+      both true true e f g = record { enough = leb-true fewest-tags b e; few = leb-true b (lim .tags) f }
+      both true false e f g = absurd (false≢true g)
+      both false t e f g = absurd (false≢true g)
   step-follows (command k rs) b h =
       by-command lim (Follows (command k rs) b) k rs b (command-ends k rs b h) (command-opens k rs b h) (λ part. command-part part k rs b h) tt
   step-follows (place k kind rs) b h = (h, ap (λ (x : List ℕ). 0x20 ∷ k ∷ x) (sym (append-assoc (down rs) (opener kind ∷ []) (b ∷ []))))
@@ -361,7 +360,6 @@ module _ (lim : Limits) where
         record {
           enough-tags = h .0 .enough;
           few-tags = h .0 .few;
-          six-bytes = h .0 .six;
           few-rules = subst (λ (n : ℕ). n ≤ lim .rules) (sym (length-reverse rs)) (h .1);
           rules-valid = valid-reverse (lim .pattern) k rs (h .2);
           no-end-tag = refl;

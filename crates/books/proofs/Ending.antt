@@ -4,12 +4,12 @@ use native.Mathlib.Omega.{arith}
 use mathlib.Core.Path.{_≡_, refl, sym, ap, _∙_, subst}
 use mathlib.Core.Bool.{Bool, true, false, not, _&&_, _||_}
 use mathlib.Core.List.{List, [], _∷_}
-use borrow.Author.Tests.{eqb-true}
+use borrow.Author.Tests.{eqb-true, not-true}
 use lib.Dec.{eqb, leb}
 use Rattle.limits.specs.Limits.{InRange, no-end}
 use Rattle.limits.specs.declared.Limits.{Limits}
 use Rattle.answers.specs.Outcome.{result}
-use Rattle.answers.proofs.Outcome.{passed, not-true, went}
+use Rattle.answers.proofs.Outcome.{passed, went}
 use Rattle.cascades.specs.Rule.{Rule, ValidRules, Cascade, ending}
 use Rattle.cascades.specs.Ending.{misused, someMisused, badEnd}
 use Rattle.cascades.specs.Spares.{Spare}

@@ -7,7 +7,7 @@ use mathlib.Core.List.{List, [], _∷_}
 use borrow.Author.Tests.{leb-true}
 use lib.Dec.{eqb, leb, ltb}
 use lib.ListN.{length, drop, getD, length-append}
-use Rattle.limits.specs.Limits.{fewest-tags, most-rules, most-tags, longest-pattern, InRange}
+use Rattle.limits.specs.Limits.{fewest-tags, most-rules, longest-pattern, InRange}
 use Rattle.limits.specs.declared.Limits.{Limits}
 use Rattle.answers.specs.Outcome.{Outcome, result, refused, nothing, byte, rule, andThen, provided}
 use Rattle.cascades.specs.Pattern.{one, any, ones, someSet, word}
@@ -86,7 +86,7 @@ module _ (lim : Limits) where
   small-step : (s : Stage) (b : ℕ) → Small (step lim s b)
   small-step opening b = small-provided 1 (eqb b 0x20) (result size) (early 1 (omega arith) (omega arith)) tt
   small-step size b =
-      small-provided 2 (leb fewest-tags b && (leb b (lim .tags) && leb b most-tags)) (result (command b [])) (early 2 (omega arith) (omega arith)) tt
+      small-provided 2 (leb fewest-tags b && leb b (lim .tags)) (result (command b [])) (early 2 (omega arith) (omega arith)) tt
   small-step (command k rs) b = small-command k rs b
   small-step (place k kind rs) b = tt
   small-step (new-tag k kind rs p) b = small-provided 4 (ltb b k) (result (command k (opened kind p b ∷ rs))) (early 4 (omega arith) (omega arith)) tt
@@ -169,7 +169,7 @@ module _ (lim : Limits) (ranged : InRange lim) where
   reached-step : (s : Stage) (b at : ℕ) → Reached s at → ReachedBy (step lim s b) (suc at)
   reached-step opening b at h = reached-provided 1 (eqb b 0x20) (result size) (suc at) (λ e. omega arith)
   reached-step size b at h =
-      reached-provided 2 (leb fewest-tags b && (leb b (lim .tags) && leb b most-tags)) (result (command b [])) (suc at) (λ e. omega arith)
+      reached-provided 2 (leb fewest-tags b && leb b (lim .tags)) (result (command b [])) (suc at) (λ e. omega arith)
   reached-step (command k rs) b at h = reached-command k at rs b h
   reached-step (place k kind rs) b at h = (h .0, omega (arith, h .1))
   reached-step (new-tag k kind rs p) b at h =

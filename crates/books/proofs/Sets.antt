@@ -1,5 +1,5 @@
 -- Sets of tags: their six bytes, and patterns with sets, as lists and in rows.
-use Prim.Native.Nat.{ℕ, zero, suc, _+_, _*_, _/_, _%_, _^_, _≤_, _<_}
+use Prim.Native.Nat.{ℕ, zero, suc, _+_, _*_, _/_, _%_, _^_, _<_}
 use native.Mathlib.Omega.{arith}
 use native.Mathlib.Nat.{pow-suc, pow-succ', div-one, div-add-mod', div-div-eq-div-mul, div-eq-of-lt}
 use mathlib.Core.Path.{_≡_, refl, sym, ap, ap₂, _∙_}
@@ -7,13 +7,12 @@ use mathlib.Core.Bool.{Bool, true, false, false≢true}
 use mathlib.Core.List.{List, [], _∷_, _++_}
 use lib.Arith.{digits-div, digits-mod}
 use lib.Dec.{eqb}
-use lib.Pow.{pow-mono}
 use lib.ListN.{length, take}
 use lib.Seq.{take-nil}
-use Rattle.limits.specs.Limits.{most-tags}
 use Rattle.cascades.specs.Pattern.{Class, one, any, someSet, word, plain}
 use Rattle.cascades.specs.Rule.{SetsBelow}
 use Rattle.cascades.specs.Value.{classOf, places, lastSet}
+use Rattle.cascades.proofs.Pattern.{last-none}
 use Rattle.books.specs.Book.{bytesOf}
 
 -- ---- the bytes of a number
@@ -35,9 +34,13 @@ byte-next s n =
     ap (λ (x : ℕ). x * 0x100 + s / 0x100 ^ n % 0x100) (ap (λ (x : ℕ). s / x) (pow-suc 0x100 n) ∙ sym (div-div-eq-div-mul s (0x100 ^ n) 0x100))
     ∙ div-add-mod' (s / 0x100 ^ n) 0x100
 
+-- n bytes make a number below 256 ^ n
+pub byte-more : (n s b : ℕ) → s < 0x100 ^ n → b < 0x100 → s * 0x100 + b < 0x100 ^ suc n
+byte-more n s b h small = omega (arith, pow-suc 0x100 n)
+
 -- nothing is before a set's six
-pub six-enough : (s k : ℕ) → s < 2 ^ k → k ≤ most-tags → s / 0x100 ^ 6 ≡ 0
-six-enough s k h few = div-eq-of-lt (omega (arith, pow-mono {i = k} {j = most-tags} few))
+pub six-enough : (s : ℕ) → s < 2 ^ 48 → s / 0x100 ^ 6 ≡ 0
+six-enough s h = div-eq-of-lt (omega arith)
 
 -- ---- patterns
 
@@ -49,7 +52,7 @@ word-append (any s ∷ u) v = ap (λ (x : List ℕ). 0 ∷ x) (word-append u v)
 pub sets-append : (k : ℕ) (u v : List Class) → SetsBelow k u → SetsBelow k v → SetsBelow k (u ++ v)
 sets-append k [] v h g = g
 sets-append k (one a ∷ u) v h g = sets-append k u v h g
-sets-append k (any s ∷ u) v h g = (h .0, h .1, sets-append k u v (h .2) g)
+sets-append k (any s ∷ u) v h g = (h .0, h .1, h .2, sets-append k u v (h .3) g)
 
 pub plain-append : (u v : List ℕ) → plain (u ++ v) ≡ plain u ++ plain v
 plain-append [] v = refl
@@ -79,24 +82,11 @@ last-set (c ∷ u) s = ap₂ last-by (some-set (c ∷ u) s) (last-set u s)
 
 -- ---- patterns in rows
 
-pub places-length : (u ss : List ℕ) → length (places u ss) ≡ length u
-places-length [] ss = refl
-places-length (a ∷ u) [] = ap suc (places-length u [])
-places-length (a ∷ u) (s ∷ ss) = ap suc (places-length u ss)
-
-pub places-plain : (u : List ℕ) → places u [] ≡ plain u
-places-plain [] = refl
-places-plain (a ∷ u) = ap (λ (x : List Class). one a ∷ x) (places-plain u)
-
 pub places-snoc : (u ss : List ℕ) (a s : ℕ) → length u ≡ length ss → places (u ++ (a ∷ [])) (ss ++ (s ∷ [])) ≡ places u ss ++ (classOf a s ∷ [])
 places-snoc [] [] a s h = refl
 places-snoc [] (t ∷ ss) a s h = absurd (omega arith)
 places-snoc (b ∷ u) [] a s h = absurd (omega arith)
 places-snoc (b ∷ u) (t ∷ ss) a s h = ap (λ (x : List Class). classOf b t ∷ x) (places-snoc u ss a s (omega arith))
-
-pub last-none : (v : List Class) → someSet v ≡ false → lastSet v ≡ 0
-last-none [] e = refl
-last-none (c ∷ v) e = ap (λ (b : Bool). last-by b (lastSet v)) e
 
 -- no set is needed behind the last one
 pub places-cut : (u ss : List ℕ) → places u (take (lastSet (places u ss)) ss) ≡ places u ss

@@ -18,10 +18,10 @@ use Rattle.answers.specs.Outcome.{result, andThen, provided}
 use Rattle.answers.proofs.Outcome.{passed}
 use Rattle.cascades.specs.Pattern.{Class, one, any, ones, word, plain}
 use Rattle.cascades.specs.Value.{classOf, places, lastSet}
-use Rattle.cascades.proofs.Pattern.{last-inside}
+use Rattle.cascades.proofs.Pattern.{places-length, last-inside}
 use Rattle.books.specs.Read.{Stage, opening, setRead}
 use Rattle.books.specs.Resume.{Placed, faulted}
-use Rattle.books.proofs.Sets.{word-append, plain-append, last-tag, last-set, places-length, places-snoc, places-cut}
+use Rattle.books.proofs.Sets.{word-append, plain-append, last-tag, last-set, places-snoc, places-cut}
 
 -- one more tag
 pub plain-more : (row : List ℕ) (n t : ℕ) → n < length row → plain (take n row) ++ (one t ∷ []) ≡ plain (take (n + 1) (set row n t))

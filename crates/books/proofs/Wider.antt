@@ -34,7 +34,6 @@ valid-wider lim wide c pattern rules tags v =
     record {
       enough-tags = v .enough-tags;
       few-tags = omega (arith, v .few-tags);
-      six-bytes = v .six-bytes;
       few-rules = omega (arith, v .few-rules);
       rules-valid = rules-wider (lim .pattern) (wide .pattern) (c .tags) (c .rules) pattern (v .rules-valid);
       no-end-tag = v .no-end-tag;

@@ -3,7 +3,7 @@ use Prim.Native.Nat.{ℕ, zero, suc, _/_, _%_, _^_, _≤_}
 use mathlib.Core.Path.{_≡_}
 use mathlib.Core.List.{List, [], _∷_, _++_}
 use lib.ListN.{length}
-use Rattle.limits.specs.Limits.{fewest-tags, most-tags, no-end}
+use Rattle.limits.specs.Limits.{fewest-tags, no-end}
 use Rattle.limits.specs.declared.Limits.{Limits}
 use Rattle.cascades.specs.Pattern.{Class, one, any}
 use Rattle.cascades.specs.Rule.{Kind, once, everywhere, Rule, Cascade, ValidCascade}
@@ -12,8 +12,6 @@ use Rattle.cascades.specs.Rule.{Kind, once, everywhere, Rule, Cascade, ValidCas
 pub record Valid (lim : Limits) (b : Cascade) : Type 0 where
   pub enough-tags : fewest-tags ≤ b .tags
   pub few-tags : b .tags ≤ lim .tags
-  -- a set's 48 bits are one for each tag: of limits in their ranges this says nothing new
-  pub six-bytes : b .tags ≤ most-tags
   pub few-rules : length (b .rules) ≤ lim .rules
   pub rules-valid : ValidCascade (lim .pattern) b
   -- a book's bytes have no end tag: a call names it

@@ -6,7 +6,7 @@ use mathlib.Core.Bool.{true, false, not, _&&_}
 use mathlib.Core.List.{List, [], _∷_, _++_, reverse}
 use lib.Dec.{eqb, leb, ltb}
 use lib.ListN.{length, drop, getD}
-use Rattle.limits.specs.Limits.{fewest-tags, most-tags, no-end}
+use Rattle.limits.specs.Limits.{fewest-tags, no-end}
 use Rattle.limits.specs.declared.Limits.{Limits}
 use Rattle.answers.specs.Outcome.{Outcome, result, refused, nothing, byte, andThen, provided}
 use Rattle.cascades.specs.Pattern.{Class, one, any, ones, someSet, word}
@@ -85,10 +85,10 @@ abbrev pub setByte : ℕ → Rule → List Rule → ℕ → ℕ → Outcome Stag
 setByte k r rs zero s = setRead k s (command k (longer r (any s) ∷ rs))
 setByte k r rs (suc n) s = result (set-byte k r rs n s)
 
--- the stage after a byte, or the number of the refusal: K below 2 or above its limit, or above 48, is 2; a byte after 00 is 1
+-- the stage after a byte, or the number of the refusal: K below 2 or above its limit is 2; a byte after 00 is 1
 abbrev pub step : Limits → Stage → ℕ → Outcome Stage
 step lim opening b = provided 1 (eqb b 0x20) (result size)
-step lim size b = provided 2 (leb fewest-tags b && (leb b (lim .tags) && leb b most-tags)) (result (command b []))
+step lim size b = provided 2 (leb fewest-tags b && leb b (lim .tags)) (result (command b []))
 step lim (command k rs) b = commandStep lim k rs b
 step lim (place k kind rs) b = result (new-tag k kind rs b)
 step lim (new-tag k kind rs p) b = below k b (command k (opened kind p b ∷ rs))

@@ -17,7 +17,7 @@ use Rattle.cascades.specs.Rewrite.{behind, rewrite, apply, applyAll, beh
 use Rattle.cascades.specs.Ending.{before, misused}
 use Rattle.cascades.specs.Leftmost.{Match}
 use Rattle.cascades.specs.Spares.{Changes, Spares, Spare}
-use Rattle.cascades.proofs.Pattern.{member-outside, word-length, fits-match, match-tail, match-length}
+use Rattle.cascades.proofs.Pattern.{member-outside, word-length, fits-match, match-tail}
 
 -- the tag at a place without sets behind it is the pattern's
 pub match-at : (u : List Class) (m : List ℕ) (p : ℕ) → Match u m → someSet (drop p u) ≡ false → getD m p 0 ≡ getD (word u) p 0
@@ -63,7 +63,7 @@ before-outside : (k e : ℕ) → k ≤ e → (u : List Class) → Below k (word 
 before-outside k e h [] b sb = refl
 before-outside k e h (c ∷ []) b sb = refl
 before-outside k e h (one a ∷ d ∷ u) b sb = cc (ne-eqb a e (λ f. omega (arith, f, b .0)), before-outside k e h (d ∷ u) (b .1) sb)
-before-outside k e h (any s ∷ d ∷ u) b sb = cc (member-outside s k e (sb .0) h, before-outside k e h (d ∷ u) (b .1) (sb .2))
+before-outside k e h (any s ∷ d ∷ u) b sb = cc (member-outside s k e (sb .1) h, before-outside k e h (d ∷ u) (b .1) (sb .3))
 
 pub misused-outside : (l k e : ℕ) → k ≤ e → (r : Rule) → ValidRule l k r → misused e r ≡ false
 misused-outside l k e h r ok =

@@ -1,6 +1,6 @@
 -- What a rule makes of a word is 002's leftmost rewrite relation with the identity elsewhere; and, of an everywhere rule, that relation again
 -- behind each match. Both ways; of matches where a pattern has sets, and as 002 has it where it has none.
-use Prim.Native.Nat.{ℕ, zero, suc, _+_, _≤_, _<_}
+use Prim.Native.Nat.{ℕ, zero, suc, _≤_, _<_}
 use native.Mathlib.Omega.{arith}
 use mathlib.Core.Path.{_≡_, refl, sym, ap, _∙_, subst}
 use mathlib.Core.Logic.{_⊎_, inl, inr, _↔_}
@@ -9,11 +9,11 @@ use mathlib.Core.List.{List, [], _∷_, _++_, append-cancel-left}
 use lib.ListN.{length, take, drop, set, getD, length-append, length-set, take-append-drop}
 use lib.Seq.{take-at, getD-set-same}
 use Rattle.words.specs.Word.{Prefix}
-use Rattle.cascades.specs.Pattern.{Class, fits, someSet, word, plain}
+use Rattle.cascades.specs.Pattern.{Class, fits, someSet, word}
 use Rattle.cascades.specs.Rule.{Kind, once, everywhere, Rule}
 use Rattle.cascades.specs.Rewrite.{behind, apply}
-use Rattle.cascades.specs.Leftmost.{OccursAt, Occurs, Leftmost, Behavior, Everywhere, nowhere, match, Match, MatchAt, Matched, LeftmostMatch, MatchBehavior, EveryMatch, none, more}
-use Rattle.cascades.proofs.Pattern.{word-length, plain-word, fits-match, match-fits, match-length, match-plain, plain-match}
+use Rattle.cascades.specs.Leftmost.{OccursAt, Behavior, Everywhere, nowhere, match, Match, MatchAt, Matched, MatchBehavior, EveryMatch, none, more}
+use Rattle.cascades.proofs.Pattern.{plain-word, fits-match, match-fits, match-length, match-plain, plain-match}
 use Rattle.cascades.proofs.Rewrite.{apply-other, apply-front}
 use Rattle.cascades.proofs.Ending.{match-at}
 

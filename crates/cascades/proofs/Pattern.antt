@@ -8,11 +8,14 @@ use mathlib.Core.Bool.{Bool, true, false, false≢true}
 use mathlib.Core.List.{List, [], _∷_, _++_}
 use borrow.Author.Tests.{eq-eqb, eqb-true}
 use lib.Dec.{eqb}
-use lib.ListN.{length, take, drop, getD}
+use lib.ListN.{length, take, drop, getD, List·getD-eq-default}
 use lib.Pow.{pow-mono}
+use lib.Seq.{getD-take, length-take-le}
+use Rattle.limits.specs.Limits.{longest-pattern}
 use Rattle.words.specs.Word.{prefix}
 use Rattle.cascades.specs.Pattern.{Class, one, any, member, accepts, fits, someSet, word, plain}
-use Rattle.cascades.specs.Value.{classOf, places, lastSet}
+use Rattle.cascades.specs.Value.{classOf, places, lastSet, ruleOf, Formed, SetRow}
+use Rattle.cascades.specs.declared.Rule.{Rule as Value}
 use Rattle.cascades.specs.Leftmost.{Match}
 
 -- a tag that is none of k is in no set of them
@@ -68,6 +71,16 @@ places-at (a ∷ u) [] zero h = refl
 places-at (a ∷ u) (s ∷ ss) zero h = refl
 places-at (a ∷ u) [] (suc j) h = places-at u [] j (omega arith)
 places-at (a ∷ u) (s ∷ ss) (suc j) h = places-at u ss j (omega arith)
+
+-- the set at a place of which the first n have one
+pub set-before : (ss : List ℕ) (n j : ℕ) → j < n → getD ss j 0 ≡ getD (take n ss) j 0
+set-before ss n j h = sym (getD-take n ss j 0 h)
+
+pub set-behind : (ss : List ℕ) (n j : ℕ) → n ≤ j → 0 ≡ getD (take n ss) j 0
+set-behind ss zero j h = refl
+set-behind [] (suc n) j h = refl
+set-behind (s ∷ ss) (suc n) zero h = absurd (omega arith)
+set-behind (s ∷ ss) (suc n) (suc j) h = set-behind ss n j (omega arith)
 
 -- ---- where a pattern fits
 
@@ -136,6 +149,10 @@ match-tail (any s ∷ u) (a ∷ m) (suc p) h e = match-tail u m p (h .1) e
 last-cons : (c : Class) (u : List Class) (t : Bool) → someSet (c ∷ u) ≡ t → lastSet (c ∷ u) ≡ elim t as (λ x. ℕ) [ true ↦ suc (lastSet u) | false ↦ 0 ]
 last-cons c u t e = ap (λ (b : Bool). elim b as (λ x. ℕ) [ true ↦ suc (lastSet u) | false ↦ 0 ]) e
 
+pub last-none : (u : List Class) → someSet u ≡ false → lastSet u ≡ 0
+last-none [] e = refl
+last-none (c ∷ u) e = last-cons c u false e
+
 later-set : (c : Class) (u : List Class) → someSet u ≡ true → someSet (c ∷ u) ≡ true
 later-set (one a) u e = e
 later-set (any s) u e = refl
@@ -168,10 +185,6 @@ none-from (c ∷ u) p h = by (someSet (c ∷ u)) refl p h (λ q. none-from u q)
     by t e zero h rest = empty (someSet (c ∷ u)) refl (omega arith)
     by true e (suc p) h rest = rest p (omega (arith, last-cons c u true e))
     by false e (suc p) h rest = rest p (omega (arith, last-none u (none (someSet u) refl e)))
-      where
-        last-none : (v : List Class) → someSet v ≡ false → lastSet v ≡ 0
-        last-none [] f = refl
-        last-none (d ∷ v) f = last-cons d v false f
 
 pub last-zero : (u : List Class) → lastSet u ≡ 0 → someSet u ≡ false
 last-zero u e = none-from u 0 (omega arith)
@@ -191,3 +204,25 @@ none-later u i p h e = none-from u p (by (decLt i (lastSet u)))
     by : Dec (i < lastSet u) → lastSet u ≤ p
     by (yes l) = absurd (false≢true (sym e ∙ some-from u i l))
     by (no l) = omega arith
+
+-- ---- the row of a rule's sets
+
+pub set-row : (sets : List (List ℕ)) (i : ℕ) (v : Value) → Formed v (getD sets i []) → (i < length sets → length (getD sets i []) ≡ longest-pattern) → SetRow sets i (v .sets)
+set-row sets i v f long =
+    record {
+      few =
+          omega (
+            arith,
+            f .last-is,
+            last-inside (ruleOf v (getD sets i []) .pattern),
+            places-length (take (v .length) (v .row)) (take (v .sets) (getD sets i [])),
+            length-take-le (v .length) (v .row) (omega (arith, f .row-long, f .length-short)),
+            f .length-short,
+          );
+      there = λ some. by some (decLt i (length sets));
+      long = long;
+    }
+  where
+    by : 0 < v .sets → Dec (i < length sets) → i < length sets
+    by some (yes l) = l
+    by some (no l) = absurd (omega (arith, f .sets-long, ap length (List·getD-eq-default sets [] {n = i} (omega arith))))

@@ -6,9 +6,8 @@ use native.Mathlib.Numerals.{add-one}
 use mathlib.Core.Path.{_≡_, refl, sym, ap, ap₂, _∙_, subst}
 use mathlib.Core.Bool.{Bool, true, false}
 use mathlib.Core.List.{List, [], _∷_, _++_, append-assoc}
-use lib.Dec.{eqb}
 use lib.ListN.{length, drop, take, getD, set, length-drop, length-take, length-set, length-append, take-append-drop}
-use lib.Seq.{drop-cons, drop-length, drop-append-seam, drop-at, take-at, take-suc, length-take-le, set-append-left}
+use lib.Seq.{drop-cons, drop-at, take-at, take-suc, length-take-le, set-append-left}
 use Rattle.words.specs.Parts.{Begun}
 use Rattle.cascades.specs.Pattern.{Class, fits}
 use Rattle.cascades.specs.Rule.{Kind, once, everywhere, Rule}

@@ -23,11 +23,11 @@ pub record Rule : Type 0 where
 abbrev pub hasSet : Rule → Bool
 hasSet r = someSet (r .pattern)
 
--- the pattern's sets hold tags below k, "at least two"
+-- each set of the pattern is given "as 48 bits" and holds tags below k, "at least two"
 abbrev pub SetsBelow : ℕ → List Class → Type 0
 SetsBelow k [] = Unit {0}
 SetsBelow k (one a ∷ u) = SetsBelow k u
-SetsBelow k (any s ∷ u) = (s < 2 ^ k) × (2 ≤ ones k s) × SetsBelow k u
+SetsBelow k (any s ∷ u) = (s < 2 ^ 48) × (s < 2 ^ k) × (2 ≤ ones k s) × SetsBelow k u
 
 -- a rule over k tags whose pattern has at most l places; the new tag is another than the one at the place; "Sets stand before p only"
 pub record ValidRule (l k : ℕ) (r : Rule) : Type 0 where

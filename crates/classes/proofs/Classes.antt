@@ -1,29 +1,19 @@
 -- The test of a pattern with sets, place by place.
-use Prim.Native.Nat.{ℕ, zero, suc, _+_, _≤_, _<_}
+use Prim.Native.Nat.{ℕ, suc, _+_, _<_}
 use native.Mathlib.Omega.{arith}
 use native.Mathlib.Numerals.{add-one}
-use mathlib.Core.Path.{_≡_, refl, sym, ap, _∙_}
+use mathlib.Core.Path.{_≡_, sym, ap, _∙_}
 use mathlib.Core.Bool.{true, false}
 use mathlib.Core.List.{List, [], _∷_}
 use native.Mathlib.Decide.{decLt}
-use lib.ListN.{length, take, drop, getD, length-drop}
-use lib.Seq.{drop-cons, drop-length, getD-take}
+use lib.ListN.{length, drop, getD, length-drop}
+use lib.Seq.{drop-cons, drop-length}
 use Rattle.cascades.specs.Pattern.{Class, accepts, fits}
 use Rattle.cascades.specs.Value.{classOf, places}
 use Rattle.cascades.proofs.Pattern.{places-length, places-at, fits-short}
 use Rattle.places.specs.declared.Occurrence.the-variants.{At, Nowhere}
 use Rattle.leftmost.specs.Leftmost.{Found}
 use Rattle.leftmost.proofs.Leftmost.{place-is}
-
--- the set at a place of which the first n have one
-pub set-before : (ss : List ℕ) (n j : ℕ) → j < n → getD ss j 0 ≡ getD (take n ss) j 0
-set-before ss n j h = sym (getD-take n ss j 0 h)
-
-pub set-behind : (ss : List ℕ) (n j : ℕ) → n ≤ j → 0 ≡ getD (take n ss) j 0
-set-behind ss zero j h = refl
-set-behind [] (suc n) j h = refl
-set-behind (s ∷ ss) (suc n) zero h = absurd (omega arith)
-set-behind (s ∷ ss) (suc n) (suc j) h = set-behind ss n j (omega arith)
 
 module _ (u ss s : List ℕ) (i j : ℕ) where
   abbrev P : List Class

@@ -1,35 +1,15 @@
 // The leftmost match of a pattern with sets (document 02, W9). A pattern is a row of tags and, up to its last set, a row of sets, 0 where a tag stands.
-use cascades::member;
+use cascades::accepts;
+use cascades::set_at;
 use limits::PATTERN;
 use places::Occurrence;
 ghost use mathlib.Core.Path.{_≡_};
 ghost use Prim.Native.Nat.{_+_, _≤_, _<_};
-ghost use lib.ListN.{length, take, drop, getD};
+ghost use lib.ListN.{length, take, drop};
 ghost use Rattle.limits.specs.Limits.{longest-pattern};
-ghost use Rattle.cascades.specs.Pattern.{accepts, fits};
-ghost use Rattle.cascades.specs.Value.{classOf, places};
+ghost use Rattle.cascades.specs.Pattern.{fits};
+ghost use Rattle.cascades.specs.Value.{places};
 ghost use Rattle.leftmost.specs.Leftmost.{Found};
-
-// Whether a place accepts the tag a: the place is a set, or the tag b.
-pub fn accepts(b: u8, set: u64, a: u8) -> bool
-    ensures { λ r. ⌜ r ≡ accepts (classOf b set) a ⌝ }
-{
-    if set == 0 {
-        return b == a;
-    }
-    member(set, a)
-}
-
-// The set at the place j of a pattern that has sets at its first n places only, 0 for none.
-pub fn set_at(sets: &[u64; PATTERN], n: usize, j: usize) -> u64
-    requires { ⌜ (n ≤ longest-pattern) × (length (now sets) ≡ longest-pattern) ⌝ }
-    ensures { λ r. ⌜ r ≡ getD (take n (now (sets .entry))) j 0 ⌝ }
-{
-    if j < n {
-        return sets[j];
-    }
-    0
-}
 
 // Whether the pattern u, with the first n of the sets, begins at the place i of s. It stops at the first tag that is not accepted.
 fn begins(s: &[u8], i: usize, u: &[u8], sets: &[u64; PATTERN], n: usize) -> bool

@@ -1,5 +1,5 @@
--- The answer of compile, as a function of the limits, the book's bytes, the end tag, the ceiling and the lengths of the two slices: the bytes of the
--- table, or the first refusal in the order of documents 01 and 02: 17, 8, the book's, 14, 9; then 10 with the rule, 11.
+-- The answer of compile, as a function of the limits, the book's bytes, the end tag, the ceiling and the lengths of the two slices: the bytes
+-- of the table, or the first refusal in the order of documents 01 and 02: 17, 8, the book's, 14, 9; then 10 with the rule, 11.
 use Prim.Native.Nat.{ℕ, suc}
 use mathlib.Core.Bool.{true, false, _&&_}
 use mathlib.Core.List.{List, [], _∷_}

@@ -41,8 +41,8 @@ pub record Shortest (c : Cascade) (n i : ℕ) : Type 0 where
 abbrev pub Alike : Cascade → Cascade → Type 0
 Alike c d = (w : List ℕ) → Below (c .tags) w → behavior c w ≡ behavior d w
 
--- what comes before the states: limits in their ranges, a valid book, whose bytes are read as the cascade with the call's end tag; a ceiling in its range; and
--- "A work slice is long enough if it has the entries under Bounds"
+-- what comes before the states: limits in their ranges, a valid book, whose bytes are read as the cascade with the call's end tag; a ceiling in
+-- its range; and "A work slice is long enough if it has the entries under Bounds"
 pub record Premises (lim : Limits) (book : List ℕ) (end n work : ℕ) (c : Cascade) : Type 0 where
   pub ranged : InRange lim
   pub reads : readEnding lim book end ≡ result c

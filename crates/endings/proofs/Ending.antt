@@ -1,27 +1,25 @@
 -- The tests of 14, place by place and rule by rule.
-use Prim.Native.Nat.{ℕ, zero, suc, _+_, _/_, _^_, _<_, _≤_}
+use Prim.Native.Nat.{ℕ, zero, suc, _+_, _<_, _≤_}
 use native.Mathlib.Omega.{arith}
 use native.Mathlib.Decide.{ℕ-discrete, decLt}
-use native.Mathlib.Nat.{div-eq-of-lt}
 use mathlib.Core.Path.{_≡_, refl, sym, ap, ap₂, _∙_}
 use mathlib.Core.Bool.{Bool, true, false, not, _&&_, _||_}
 use mathlib.Core.List.{List, [], _∷_}
 use borrow.Author.Tests.{eq-eqb, ne-eqb, le-leb, lt-leb}
 use lib.Dec.{eqb, leb}
-use lib.ListN.{length, take, drop, getD, length-drop, List·getD-eq-default}
-use lib.Pow.{pow-mono}
+use lib.ListN.{length, take, drop, getD, length-drop}
 use lib.Seq.{length-take-le, getD-take}
 use Rattle.words.proofs.Word.{drop-step}
 use Rattle.cascades.specs.Rule.{Rule, Cascade, ending}
-use Rattle.cascades.specs.Pattern.{Class, one, member, accepts, word, plain}
+use Rattle.cascades.specs.Pattern.{Class, one, accepts, word, plain}
 use Rattle.cascades.specs.Value.{classOf, places, ruleOf, Formed}
 use Rattle.cascades.specs.declared.Rule.{Rule as Value}
 use Rattle.cascades.specs.Ending.{before, misused, someMisused, badEnd}
+use Rattle.cascades.proofs.Pattern.{places-length, places-at}
 use Rattle.cascades.proofs.Ending.{misused-outside}
 use Rattle.limits.specs.Limits.{most-rules, most-tags, no-end}
 use Rattle.books.specs.Arrays.{Arrays, Shaped, RulesHeld, placeAt, ruleAt, cascadeOf}
 use Rattle.books.proofs.Arrays.{pattern-long}
-use Rattle.books.proofs.Sets.{places-length}
 use Rattle.books.proofs.Some.{not-one}
 use Rattle.endings.specs.Usable.{Usable}
 
@@ -67,28 +65,14 @@ plain-hit w i e f = ap (λ (c : Class). accepts c e) (plain-at w i) ∙ eq-eqb (
 pub plain-miss : (w : List ℕ) (i e : ℕ) → (getD w i 0 ≡ e → ⊥) → accepts (getD (plain w) i (one 0)) e ≡ false
 plain-miss w i e d = ap (λ (c : Class). accepts c e) (plain-at w i) ∙ ne-eqb (getD w i 0) e d
 
-pub places-at : (w ss : List ℕ) (i : ℕ) → i < length w → getD (places w ss) i (one 0) ≡ classOf (getD w i 0) (getD ss i 0)
-places-at [] ss i h = absurd (omega arith)
-places-at (a ∷ w) [] zero h = refl
-places-at (a ∷ w) [] (suc i) h = places-at w [] i (omega arith) ∙ ap (classOf (getD w i 0)) (none i)
-  where
-    none : (i : ℕ) → _≡_ {A = ℕ} (getD [] i 0) 0
-    none zero = refl
-    none (suc i) = refl
-places-at (a ∷ w) (s ∷ ss) zero h = refl
-places-at (a ∷ w) (s ∷ ss) (suc i) h = places-at w ss i (omega arith)
-
--- where a row is, it is one of the rows
-pub row-there : (l : List (List ℕ)) (i : ℕ) → 0 < length (getD l i []) → i < length l
-row-there l i h = by (decLt i (length l))
-  where
-    by : Dec (i < length l) → i < length l
-    by (yes k) = k
-    by (no k) = absurd (omega (arith, ap length (List·getD-eq-default l [] (let out : length l ≤ i = omega arith in out))))
-
--- a tag that is no bit of 64
-pub member-high : (s e : ℕ) → s < 2 ^ 64 → 64 ≤ e → false ≡ member s e
-member-high s e h l = let none : s / 2 ^ e ≡ 0 = div-eq-of-lt (omega (arith, pow-mono {i = 64} {j = e} l)) in cc none
+module _ (w ss : List ℕ) (i e : ℕ) (h : i < length w) (set : ℕ) (is : set ≡ getD ss i 0) where
+  pub place-accepts : accepts (classOf (getD w i 0) set) e ≡ accepts (getD (places w ss) i (one 0)) e
+  place-accepts =
+      let P = places w ss in
+      let first : classOf (getD w i 0) (getD ss i 0) ≡ getD P i (one 0) =
+      ap (λ (u : List Class). getD u 0 (one 0)) (sym (places-at w ss i h) ∙ drop-step P i (one 0) (omega (arith, places-length w ss)))
+      in
+      cc (is, first)
 
 -- ---- the three tests of a rule
 

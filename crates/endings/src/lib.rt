@@ -1,16 +1,18 @@
 // Whether a book can be used with an end tag (document 02, W1): 14.
 use books::HEAD;
 use cascades::Rule;
+use cascades::accepts;
+use cascades::set_at;
 use limits::PATTERN;
 use limits::RULES;
 ghost use mathlib.Core.Path.{_≡_};
-ghost use Prim.Native.Nat.{_<_};
+ghost use Prim.Native.Nat.{_≤_, _<_};
 ghost use mathlib.Core.List.{[]};
-ghost use lib.ListN.{length, getD};
-ghost use Rattle.limits.specs.Limits.{most-rules};
-ghost use Rattle.cascades.specs.Pattern.{one, member, accepts, plain};
+ghost use lib.ListN.{length, take, getD};
+ghost use Rattle.limits.specs.Limits.{most-rules, longest-pattern};
+ghost use Rattle.cascades.specs.Pattern.{plain};
 ghost use Rattle.cascades.specs.Rule.{ending};
-ghost use Rattle.cascades.specs.Value.{places, ruleOf, Formed};
+ghost use Rattle.cascades.specs.Value.{places, ruleOf, Formed, SetRow};
 ghost use Rattle.cascades.specs.Ending.{before, misused, someMisused, badEnd};
 ghost use Rattle.books.specs.Arrays.{arrays, rulesOf, cascadeOf};
 ghost use Rattle.endings.specs.Usable.{Usable};
@@ -33,29 +35,10 @@ fn stands_before(u: &[u8], end: u8) -> bool
     false
 }
 
-// Whether the tag is in the set.
-fn in_set(set: u64, end: u8) -> bool
-    ensures { λ r. ⌜ r ≡ member set end ⌝ }
-{
-    if 64 <= end {
-        return false;
-    }
-    (set >> end) & 1 == 1
-}
-
-// The set at a place, 0 where none is.
-fn set_at(sets: &[u64], i: usize) -> u64
-    ensures { λ r. ⌜ r ≡ getD (now (sets .entry)) i 0 ⌝ }
-{
-    if sets.len() <= i {
-        return 0;
-    }
-    sets[i]
-}
-
-// Whether a place before the last of a pattern with sets accepts the tag.
-fn accepts_before(u: &[u8], sets: &[u64], end: u8) -> bool
-    ensures { λ r. ⌜ r ≡ before end (places (now (u .entry)) (now (sets .entry))) ⌝ }
+// Whether a place before the last of the pattern u, with the first n of the sets, accepts the tag.
+fn accepts_before(u: &[u8], sets: &[u64; PATTERN], n: usize, end: u8) -> bool
+    requires { ⌜ (n ≤ longest-pattern) × (length (now sets) ≡ longest-pattern) ⌝ }
+    ensures { λ r. ⌜ r ≡ before end (places (now (u .entry)) (take n (now (sets .entry)))) ⌝ }
 {
     if u.len() == 0 {
         return false;
@@ -63,7 +46,8 @@ fn accepts_before(u: &[u8], sets: &[u64], end: u8) -> bool
     let most = u.len() - 1;
     let mut i = 0;
     while i < most {
-        if accepts_at(u, sets, i, end) {
+        let set = set_at(sets, n, i);
+        if accepts(u[i], set, end) {
             return true;
         }
         i += 1;
@@ -71,21 +55,9 @@ fn accepts_before(u: &[u8], sets: &[u64], end: u8) -> bool
     false
 }
 
-// Whether the place i accepts the tag.
-fn accepts_at(u: &[u8], sets: &[u64], i: usize, end: u8) -> bool
-    requires { ⌜ i < length (now u) ⌝ }
-    ensures { λ r. ⌜ r ≡ accepts (getD (places (now (u .entry)) (now (sets .entry))) i (one 0)) end ⌝ }
-{
-    let set = set_at(sets, i);
-    if set == 0 {
-        return u[i] == end;
-    }
-    in_set(set, end)
-}
-
 // Whether a place before the last of the rule's pattern accepts the tag. The rule is the one of the row i of sets.
 fn early(rule: Rule, sets: &[[u64; PATTERN]], i: usize, end: u8) -> bool
-    requires { ⌜ Formed rule (getD (now sets) i []) × (i < most-rules) ⌝ }
+    requires { ⌜ Formed rule (getD (now sets) i []) × SetRow (now sets) i (rule .sets) × (i < most-rules) ⌝ }
     ensures { λ r. ⌜ r ≡ before end (ruleOf rule (getD (now (sets .entry)) i []) .pattern) ⌝ }
 {
     let row = rule.row;
@@ -95,12 +67,12 @@ fn early(rule: Rule, sets: &[[u64; PATTERN]], i: usize, end: u8) -> bool
         return stands_before(&row[..n], end);
     }
     let places = sets[i];
-    accepts_before(&row[..n], &places[..last], end)
+    accepts_before(&row[..n], &places, last, end)
 }
 
 // Whether a rule's pattern has the end tag before its last place, or the rule changes or makes it.
 fn misuses(rule: Rule, sets: &[[u64; PATTERN]], i: usize, end: u8) -> bool
-    requires { ⌜ Formed rule (getD (now sets) i []) × (rule .place < rule .length) × (i < most-rules) ⌝ }
+    requires { ⌜ Formed rule (getD (now sets) i []) × SetRow (now sets) i (rule .sets) × (rule .place < rule .length) × (i < most-rules) ⌝ }
     ensures { λ r. ⌜ r ≡ misused end (ruleOf rule (getD (now (sets .entry)) i [])) ⌝ }
 {
     let row = rule.row;

@@ -1,6 +1,6 @@
 -- The transducer of one rule does what the rule does (002, proposition 3). Without sets it is normalized (lemma 4) and minimal (proposition 5),
 -- by what it makes of the rests of the pattern alone.
-use Prim.Native.Nat.{ℕ, zero, suc, _+_, _-_, _^_, _≤_, _<_}
+use Prim.Native.Nat.{ℕ, zero, suc, _-_, _^_, _≤_, _<_}
 use native.Mathlib.Omega.{arith}
 use native.Mathlib.Nat.{pow-suc}
 use native.Mathlib.Decide.{ℕ-discrete, decLt}

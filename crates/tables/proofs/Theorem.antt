@@ -13,8 +13,8 @@ use Rattle.words.specs.Word.{Below}
 use Rattle.limits.specs.Limits.{fewest-tags, most-states, most-held}
 use Rattle.limits.specs.declared.Limits.{Limits}
 use Rattle.limits.proofs.Range.{within-result}
-use Rattle.answers.specs.Outcome.{Outcome, result}
-use Rattle.answers.proofs.Outcome.{passed, went}
+use Rattle.answers.specs.Outcome.{result}
+use Rattle.answers.proofs.Outcome.{passed, same-result, went}
 use Rattle.transducers.specs.Table.{Step, Row, Table, row, no-step, no-row}
 use Rattle.tables.specs.Valid.{ValidTable}
 use Rattle.tables.specs.Bytes.{number, high, low, joined, rowBytes, encode}
@@ -256,9 +256,6 @@ valid-wider lim wide k t longer more v =
       output-below = v .output-below;
       balanced = v .balanced;
     }
-
-same-result : (d e : Decoded) → _≡_ {A = Outcome Decoded} (result d) (result e) → d ≡ e
-same-result d e f = cc
 
 -- valid tables with the same bytes are one table, though each may be valid under its own limits
 pub same-encoding :

@@ -9,9 +9,10 @@ use Rattle.cascades.specs.Rule.{Rule}
 use Rattle.cascades.specs.Rewrite.{applyAll}
 use Rattle.cascades.specs.Value.{ruleOf}
 use Rattle.cascades.specs.Spares.{Changes}
+use Rattle.cascades.proofs.Pattern.{set-row}
 use Rattle.books.specs.Arrays.{Arrays, holding, rulesOf}
 use Rattle.traces.specs.Trace.{beside, traceFrom}
-use Rattle.application.proofs.Rules.{rule-next, number-next, changes-at, set-row}
+use Rattle.application.proofs.Rules.{rule-next, number-next, changes-at}
 use Rattle.application.proofs.apply_rules.Statement.{statement}
 use Rattle.application.proofs.apply_rules.Tie as tie
 use Rattle.application.proofs.apply_rules.Reads as reads

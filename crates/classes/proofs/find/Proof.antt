@@ -5,7 +5,7 @@ use borrow.Author.Needs.{needs}
 use borrow.Author.Count.{below-more}
 use mathlib.Core.Path.{_≡_, sym, _∙_}
 use mathlib.Core.Bool.{false}
-use lib.ListN.{length, take, drop}
+use lib.ListN.{take, drop}
 use Rattle.cascades.specs.Pattern.{fits}
 use Rattle.cascades.specs.Value.{places}
 use Rattle.cascades.proofs.Pattern.{places-length}

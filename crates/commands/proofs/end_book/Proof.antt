@@ -1,7 +1,6 @@
 -- `commands::end_book` meets its contract: each return is a case of the definition at 00.
 use native.Mathlib.Omega.{arith}
 use borrow.Author.Needs.{needs}
-use Prim.Native.Nat.{_-_}
 use mathlib.Core.Path.{_∙_, sym, ap, subst}
 use Rattle.limits.specs.declared.Limits.{Limits}
 use Rattle.answers.specs.Outcome.{Outcome}

@@ -86,7 +86,7 @@ returns-6 c =
     let st = c .before .before .before .before .before .before .before .before .before .before in (
       λ a h.
           resumes-book (st .args .s .now) (read (st .args .lim) (st .args .s .now)) 2 a h (getD (st .args .s .now) 1 0) 0 (omega arith) (omega arith)
-          (book-sized (st .args .lim) (st .args .s .now) (omega arith) (search needs) a (omega arith) (omega arith) (omega arith) (omega (arith, st .pre .few-tags))),
+          (book-sized (st .args .lim) (st .args .s .now) (omega arith) (search needs) a (omega arith) (omega arith) (omega arith)),
       λ k m e. let same : k ≡ getD (st .args .s .now) 1 0 = cc in (omega (arith, st .pre .few-tags), cc),
     )
 

@@ -14,7 +14,7 @@ use Rattle.cascades.specs.Value.{places}
 use Rattle.books.specs.Resume.{readTags, placeOutcome}
 use Rattle.books.proofs.Commands.{place-too-many}
 use Rattle.books.proofs.Resume.{places-refused, places-to}
-use Rattle.books.proofs.Sets.{places-length}
+use Rattle.cascades.proofs.Pattern.{places-length}
 use Rattle.books.proofs.SoFar.{SoFar, so-far-none, place-more, place-so-far}
 use Rattle.commands.proofs.read_places.Statement.{statement}
 use Rattle.commands.proofs.read_places.Tie as tie

@@ -1,15 +1,14 @@
 -- `endings::early` meets its contract.
-use Prim.Native.Nat.{ℕ}
+use Prim.Native.Nat.{ℕ, _<_}
 use native.Mathlib.Omega.{arith}
 use mathlib.Core.Path.{sym, ap, _∙_}
 use mathlib.Core.List.{[]}
 use borrow.Author.Needs.{needs}
-use lib.ListN.{getD, take}
+use lib.ListN.{length, getD, take}
 use lib.Seq.{length-take-le}
 use Rattle.cascades.specs.Value.{places}
 use Rattle.cascades.specs.Ending.{before}
-use Rattle.books.proofs.Sets.{places-plain}
-use Rattle.endings.proofs.Ending.{row-there}
+use Rattle.cascades.proofs.Pattern.{places-plain}
 use Rattle.endings.proofs.early.Statement.{statement}
 use Rattle.endings.proofs.early.Tie as tie
 use Rattle.endings.proofs.early.Reads as reads
@@ -33,11 +32,14 @@ returns c =
     let sets = getD (a .sets .now) (a .i) [] in
     c .stands-before .ensures ∙ ap (before (a .end)) (sym (ap (λ (x : ℕ). places row (take x sets)) (c .before .before .if1 .taken) ∙ places-plain row))
 
+there : (c : tie.Else1) → c .before .before .args .i < length (c .before .before .args .sets .now)
+there c = c .before .before .pre .1 .there (omega (arith, c .if1 .left))
+
 mul-places : tie.Need-mul-places
-mul-places c = omega (arith, c .before .before .pre .1)
+mul-places c = omega (arith, c .before .before .pre .2)
 
 shared-slice-copy-out-places : tie.Need-shared-slice-copy-out-places
-shared-slice-copy-out-places c = let st = c .before .before in row-there (st .args .sets .now) (st .args .i) (omega (arith, st .pre .0 .sets-long, c .if1 .left))
+shared-slice-copy-out-places c = there c
 
 array-share-prefix-row-2 : tie.Need-array-share-prefix-row-2
 array-share-prefix-row-2 c = search needs
@@ -45,14 +47,11 @@ array-share-prefix-row-2 c = search needs
 slice-aggregate-accepts-before : tie.Need-slice-aggregate-accepts-before
 slice-aggregate-accepts-before c = let st = c .before .before .before .before in sym (length-take-le (st .args .rule .length) (st .args .rule .row) (omega (arith, st .pre .0 .row-long, st .pre .0 .length-short)))
 
-array-share-prefix-places : tie.Need-array-share-prefix-places
-array-share-prefix-places c = search needs
-
-slice-aggregate-accepts-before-2 : tie.Need-slice-aggregate-accepts-before-2
-slice-aggregate-accepts-before-2 c = let st = c .before .before .before .before .before in sym (length-take-le (st .args .rule .sets) (getD (st .args .sets .now) (st .args .i) []) (st .pre .0 .sets-long))
-
 accepts-before-requires : tie.Need-accepts-before-requires
-accepts-before-requires c κs = search needs
+accepts-before-requires c κs =
+    let st = c .before .before .before .before .before in
+    let row = st .pre .1 in
+    (row .few, row .long (there (c .before .before .before)))
 
 returns-2 : tie.Need-returns-2
 returns-2 c = search needs
@@ -69,7 +68,5 @@ early-spec =
     shared-slice-copy-out-places
     array-share-prefix-row-2
     slice-aggregate-accepts-before
-    array-share-prefix-places
-    slice-aggregate-accepts-before-2
     accepts-before-requires
     returns-2)

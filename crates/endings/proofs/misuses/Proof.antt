@@ -31,7 +31,7 @@ returns-2 c =
     let r = st .args .rule in
     let sets = getD (st .args .sets .now) (st .args .i) [] in
     let b = c .before .before .early in
-    misused-old (st .args .end) (ruleOf r sets) (b .result) (b .ensures) (c .before .if1 .left) (tag-at r sets (st .pre .0) (st .pre .1) ∙ c .if2 .taken)
+    misused-old (st .args .end) (ruleOf r sets) (b .result) (b .ensures) (c .before .if1 .left) (tag-at r sets (st .pre .0) (st .pre .2) ∙ c .if2 .taken)
 
 returns-3 : tie.Need-returns-3
 returns-3 c =
@@ -39,7 +39,7 @@ returns-3 c =
     let r = st .args .rule in
     let sets = getD (st .args .sets .now) (st .args .i) [] in
     let b = c .before .before .before .early in
-    misused-new (st .args .end) (ruleOf r sets) (b .result) (b .ensures) (c .before .before .if1 .left) (λ f. c .before .if2 .left (sym (tag-at r sets (st .pre .0) (st .pre .1)) ∙ f))
+    misused-new (st .args .end) (ruleOf r sets) (b .result) (b .ensures) (c .before .before .if1 .left) (λ f. c .before .if2 .left (sym (tag-at r sets (st .pre .0) (st .pre .2)) ∙ f))
 
 pub misuses-spec : {M : Type 1} → statement M
 misuses-spec = tie.close (tie.spec early-requires returns array-read-if2 returns-2 returns-3)

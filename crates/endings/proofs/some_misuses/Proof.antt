@@ -5,6 +5,7 @@ use mathlib.Core.Path.{_≡_, refl, sym, ap, _∙_}
 use mathlib.Core.Bool.{false}
 use borrow.Author.Needs.{needs}
 use Rattle.cascades.specs.Ending.{misused, someMisused}
+use Rattle.cascades.proofs.Pattern.{set-row}
 use Rattle.books.specs.Arrays.{Arrays, holding, rulesOf}
 use Rattle.books.proofs.Some.{none-more, one-of}
 use Rattle.endings.proofs.Ending.{rule-inside}
@@ -34,8 +35,12 @@ misuses-requires : tie.Need-misuses-requires Inv-loop μ-loop
 misuses-requires c κs =
     let st = c .before .before .before in
     let r = c .rule-at in
-    let l = c .before .before .loop in
-    (r .ensures .1, rule-inside (arrays st) (l .i) (r .result) _ (r .ensures .0) (r .ensures .1) (st .pre .shaped) (omega (arith, st .pre .few)) (st .pre .inside (l .i) (omega arith)), omega (arith, st .pre .few))
+    let l = c .before .before .loop in (
+      r .ensures .1,
+      set-row (st .args .sets .now) (l .i) (r .result) (r .ensures .1) (st .pre .shaped .set-long (l .i)),
+      rule-inside (arrays st) (l .i) (r .result) _ (r .ensures .0) (r .ensures .1) (st .pre .shaped) (omega (arith, st .pre .few)) (st .pre .inside (l .i) (omega arith)),
+      omega (arith, st .pre .few),
+    )
 
 returns : tie.Need-returns Inv-loop μ-loop
 returns c =

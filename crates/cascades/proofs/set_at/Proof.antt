@@ -1,9 +1,9 @@
--- `classes::set_at` meets its contract.
+-- `cascades::set_at` meets its contract.
 use native.Mathlib.Omega.{arith}
 use borrow.Author.Needs.{needs}
-use Rattle.classes.proofs.Classes.{set-before, set-behind}
-use Rattle.classes.proofs.set_at.Statement.{statement}
-use Rattle.classes.proofs.set_at.Tie as tie
+use Rattle.cascades.proofs.Pattern.{set-before, set-behind}
+use Rattle.cascades.proofs.set_at.Statement.{statement}
+use Rattle.cascades.proofs.set_at.Tie as tie
 
 mul-result : tie.Need-mul-result
 mul-result c = search needs

@@ -1,8 +1,7 @@
--- `classes::accepts` meets its contract.
-use mathlib.Core.Path.{_∙_, sym}
+-- `cascades::accepts` meets its contract.
 use borrow.Author.Tests.{eq-eqb, ne-eqb}
-use Rattle.classes.proofs.accepts.Statement.{statement}
-use Rattle.classes.proofs.accepts.Tie as tie
+use Rattle.cascades.proofs.accepts.Statement.{statement}
+use Rattle.cascades.proofs.accepts.Tie as tie
 
 returns : tie.Need-returns
 returns c = cc (eq-eqb (c .before .args .set) 0 (c .if1 .taken))
