@@ -12,8 +12,10 @@ use Rattle.answers.specs.Outcome.{Outcome, andThen}
 use Rattle.answers.specs.Answer.{refusal}
 use Rattle.answers.specs.declared.Refusal.{Refusal}
 use Rattle.answers.specs.declared.Refusal.the-variants.{AtByte, AtRule, Bare}
-use Rattle.sentences.specs.Run.{run}
-use Rattle.sentences.proofs.Run.{run-same}
+use Rattle.answers.specs.declared.RunAnswer.{RunAnswer}
+use Rattle.answers.specs.Slice.{written}
+use Rattle.sentences.specs.Run.{run, Ran}
+use Rattle.sentences.proofs.Run.{run-same, ran-refused}
 use Rattle.cascades.specs.Rule.{Cascade}
 use Rattle.cascades.specs.Rewrite.{applyAll, behavior}
 use Rattle.cascades.proofs.Ending.{without-end}
@@ -25,7 +27,8 @@ use Rattle.books.specs.declared.Reading.{Reading}
 use Rattle.books.specs.declared.Reading.the-variants.{Book, Sets}
 use Rattle.books.proofs.Encode.{reads-exactly}
 use Rattle.books.proofs.Held.{was-refused, was-read, rules-held}
-use Rattle.running.specs.Rules.{running}
+use Rattle.running.specs.Rules.{running, numbers}
+use Rattle.running.proofs.Run.{numbers-kept}
 use Rattle.tagging.specs.Reading.{reading}
 use Rattle.endings.specs.Usable.{Usable}
 use Rattle.endings.proofs.Ending.{usable}
@@ -54,6 +57,24 @@ module _ {lim : Limits} (bytes : List ℕ) (a : Arrays) (r : Reading) (w : Whole
 
     pub book-runs : (k m : ℕ) → r ≡ Book k m → running f e (cascadeOf k a m) s room ≡ reading lim f bytes e s room
     book-runs k m g = sym (ap (λ (o : Outcome Cascade). andThen (andThen o (fitted e)) (λ b. run (b .tags) s room (f b s))) (was-read bytes a r w k m g)) ∙ inside lim f bytes e s room ranged
+
+  module _ (e : ℕ) (s : List ℕ) (room : ℕ) (out v : List ℕ) where
+    -- the result and the numbers of a run: where the book is refused
+    pub both-refused : (x : Refusal) → r ≡ Reading.Refused x
+        → Ran (reading lim behavior bytes e s room) s out out (RunAnswer.Refused x) × (room ≤ length v → v ≡ written (reading lim numbers bytes e s room) v)
+    both-refused x g = (
+      ran-refused (reading lim behavior bytes e s room) s out x (book-refused behavior e s room x g),
+      λ h. numbers-kept (reading lim numbers bytes e s room) x v (book-refused numbers e s room x g),
+    )
+
+    -- and where its rules are run
+    pub both-run : (k m : ℕ) (out' v' : List ℕ) (answer : RunAnswer) → r ≡ Book k m
+        → Ran (running behavior e (cascadeOf k a m) s room) s out out' answer × (room ≤ length v → v' ≡ written (running numbers e (cascadeOf k a m) s room) v)
+        → Ran (reading lim behavior bytes e s room) s out out' answer × (room ≤ length v → v' ≡ written (reading lim numbers bytes e s room) v)
+    both-run k m out' v' answer g (ran, noted) = (
+      subst (λ (o : Outcome (List ℕ)). Ran o s out out' answer) (book-runs behavior e s room k m g) ran,
+      λ h. noted h ∙ ap (λ (o : Outcome (List ℕ)). written o v) (book-runs numbers e s room k m g),
+    )
 
   -- a set was met that there is no room for
   pub no-room : r ≡ Sets → length (a .sets) ≡ 0

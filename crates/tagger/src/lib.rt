@@ -14,17 +14,25 @@ ghost use mathlib.Core.Path.{_≡_};
 ghost use Prim.Native.Nat.{_≤_, min};
 ghost use lib.ListN.{length};
 ghost use Rattle.limits.specs.Limits.{InRange, no-end};
-ghost use mathlib.Core.Bool.{false};
 ghost use Rattle.answers.specs.Slice.{written};
 ghost use Rattle.books.specs.Arrays.{SetRows};
-ghost use Rattle.books.specs.Resume.{Unless};
 ghost use Rattle.sentences.specs.Run.{Ran};
 ghost use Rattle.tagging.specs.Run.{bookRun};
 ghost use Rattle.tagging.specs.Numbers.{bookNumbers};
 
-// Runs a book over a sentence, with limits in their ranges, where the slices that get a result have at least `room` bytes. Where the rows have no room
-// for sets and the book has one, `met` becomes true, and the answer says nothing. The reader is lent a slice of all of the book: the slice itself
-// would be copied in memory, and the reader would wait for the copy.
+// The same answer, taken apart and put together. Handed on as it is, it would lie in memory in every case, and be copied from there.
+fn remade(answer: RunAnswer) -> RunAnswer
+    ensures { λ r. ⌜ r ≡ answer ⌝ }
+{
+    match answer {
+        RunAnswer::Changed(changes) => RunAnswer::Changed(changes),
+        RunAnswer::Refused(refusal) => RunAnswer::Refused(refusal),
+    }
+}
+
+// Runs a book over a sentence, with limits in their ranges, where the slices that get a result have at least `room` bytes. Where the rows have no
+// room for sets and the book has one, it begins again with rows that have. The reader is lent a slice of all of the book: the slice itself would be
+// copied in memory, and the reader would wait for the copy.
 fn run_within(
     book: &[u8],
     end: u8,
@@ -33,12 +41,11 @@ fn run_within(
     v: &mut [u8],
     room: usize,
     sets: &mut [[u64; PATTERN]],
-    met: &mut bool,
     lim: Limits,
 ) -> RunAnswer
-    requires { ⌜ room ≤ length (now out) ⌝ }
-    requires { ⌜ InRange lim × SetRows (now sets) × (now met ≡ false) ⌝ }
-    ensures { λ r. ⌜ Unless (now (met .exit)) ((length (now (sets .entry)) ≡ 0) × (now (out .exit) ≡ now (out .entry)) × (now (v .exit) ≡ now (v .entry))) (Ran (bookRun lim (now (book .entry)) end (now (sentence .entry)) room) (now (sentence .entry)) (now (out .entry)) (now (out .exit)) r × (room ≤ length (now (v .entry)) → now (v .exit) ≡ written (bookNumbers lim (now (book .entry)) end (now (sentence .entry)) room) (now (v .entry)))) ⌝ }
+    requires { ⌜ (room ≤ length (now out)) × InRange lim × SetRows (now sets) ⌝ }
+    ensures out { λ r. ⌜ Ran (bookRun lim (now (book .entry)) end (now (sentence .entry)) room) (now (sentence .entry)) (now (out .entry)) (now (out .exit)) r ⌝ }
+    ensures v { λ _. ⌜ (room ≤ length (now (v .entry)) → now (v .exit) ≡ written (bookNumbers lim (now (book .entry)) end (now (sentence .entry)) room) (now (v .entry))) ⌝ }
 {
     let mut rows = [[0u8; PATTERN]; RULES];
     let mut lengths = [0usize; RULES];
@@ -48,8 +55,19 @@ fn run_within(
     match got {
         Reading::Refused(refusal) => RunAnswer::Refused(refusal),
         Reading::Sets => {
-            *met = true;
-            RunAnswer::Changed(0)
+            let mut more = [[0u64; PATTERN]; RULES];
+            let m = sentence.len();
+            let again = run_within(
+                &book[..n],
+                end,
+                &sentence[..m],
+                out,
+                v,
+                room,
+                &mut more[..],
+                lim,
+            );
+            remade(again)
         }
         Reading::Book { tags: k, rules } => run_pieces(
             sentence,
@@ -67,25 +85,6 @@ fn run_within(
     }
 }
 
-// The same with room for sets.
-fn run_sets(
-    book: &[u8],
-    end: u8,
-    sentence: &[u8],
-    out: &mut [u8],
-    v: &mut [u8],
-    room: usize,
-    lim: Limits,
-) -> RunAnswer
-    requires { ⌜ (room ≤ length (now out)) × InRange lim ⌝ }
-    ensures out { λ r. ⌜ Ran (bookRun lim (now (book .entry)) end (now (sentence .entry)) room) (now (sentence .entry)) (now (out .entry)) (now (out .exit)) r ⌝ }
-    ensures v { λ _. ⌜ (room ≤ length (now (v .entry)) → now (v .exit) ≡ written (bookNumbers lim (now (book .entry)) end (now (sentence .entry)) room) (now (v .entry))) ⌝ }
-{
-    let mut sets = [[0u64; PATTERN]; RULES];
-    let mut met = false;
-    run_within(book, end, sentence, out, v, room, &mut sets, &mut met, lim)
-}
-
 // Runs a book over a sentence, piece by piece where an end tag ends them: the number of changed tags, with the result in the first bytes of
 // `out`, and in those of `rules` the number of the last rule that rewrote each tag, 0 for none; or the refusal.
 pub fn run_book_rules(
@@ -100,24 +99,9 @@ pub fn run_book_rules(
     ensures rules { λ _. ⌜ now (rules .exit) ≡ written (bookNumbers lim (now (book .entry)) end (now (sentence .entry)) (min (length (now (out .entry))) (length (now (rules .entry))))) (now (rules .entry)) ⌝ }
 {
     if limits::in_range(lim) {
-        let mut none = [[0u64; PATTERN]; 0];
-        let mut met = false;
         let room = lesser(out.len(), rules.len());
-        let answer = run_within(
-            book,
-            end,
-            sentence,
-            out,
-            rules,
-            room,
-            &mut none[..],
-            &mut met,
-            lim,
-        );
-        if met {
-            return run_sets(book, end, sentence, out, rules, room, lim);
-        }
-        return answer;
+        let mut none = [[0u64; PATTERN]; 0];
+        return run_within(book, end, sentence, out, rules, room, &mut none[..], lim);
     }
     RunAnswer::Refused(Refusal::Bare { number: 17 })
 }
@@ -133,11 +117,10 @@ pub fn run_book_ending(
     ensures { λ r. ⌜ Ran (bookRun lim (now (book .entry)) end (now (sentence .entry)) (length (now (out .entry)))) (now (sentence .entry)) (now (out .entry)) (now (out .exit)) r ⌝ }
 {
     if limits::in_range(lim) {
-        let mut none = [[0u64; PATTERN]; 0];
-        let mut met = false;
         let mut v = [0u8; 0];
         let room = out.len();
-        let answer = run_within(
+        let mut none = [[0u64; PATTERN]; 0];
+        return run_within(
             book,
             end,
             sentence,
@@ -145,13 +128,8 @@ pub fn run_book_ending(
             &mut v[..],
             room,
             &mut none[..],
-            &mut met,
             lim,
         );
-        if met {
-            return run_sets(book, end, sentence, out, &mut v[..], room, lim);
-        }
-        return answer;
     }
     RunAnswer::Refused(Refusal::Bare { number: 17 })
 }
@@ -162,8 +140,18 @@ fn run_without_end(book: &[u8], sentence: &[u8], out: &mut [u8], lim: Limits) ->
     ensures { λ r. ⌜ Ran (bookRun lim (now (book .entry)) no-end (now (sentence .entry)) (length (now (out .entry)))) (now (sentence .entry)) (now (out .entry)) (now (out .exit)) r ⌝ }
 {
     let mut v = [0u8; 0];
+    let mut none = [[0u64; PATTERN]; 0];
     let room = out.len();
-    run_sets(book, limits::NO_END, sentence, out, &mut v[..], room, lim)
+    run_within(
+        book,
+        limits::NO_END,
+        sentence,
+        out,
+        &mut v[..],
+        room,
+        &mut none[..],
+        lim,
+    )
 }
 
 // The same for every book, without room for sets at first.

@@ -2,10 +2,8 @@
 use native.Mathlib.Omega.{arith}
 use borrow.Author.Needs.{needs}
 use Prim.Native.Nat.{ℕ, min}
-use mathlib.Core.Path.{refl, subst, sym, ap, ap₂, _∙_}
-use mathlib.Core.List.{List}
+use mathlib.Core.Path.{subst, sym, ap, _∙_}
 use lib.ListN.{length}
-use Rattle.limits.specs.Limits.{InRange}
 use Rattle.limits.proofs.Range.{in-range}
 use Rattle.answers.specs.Slice.{written}
 use Rattle.answers.specs.declared.Refusal.the-variants.{Bare}
@@ -13,7 +11,6 @@ use Rattle.sentences.specs.Run.{Ran}
 use Rattle.sentences.proofs.Run.{ran-refused}
 use Rattle.cascades.specs.Rewrite.{behavior}
 use Rattle.books.proofs.Arrays.{no-rows}
-use Rattle.books.proofs.Resume.{if-met, if-not-met}
 use Rattle.running.specs.Rules.{numbers}
 use Rattle.running.proofs.Run.{numbers-kept}
 use Rattle.tagging.specs.Reading.{reading}
@@ -26,7 +23,6 @@ use Rattle.tagger.proofs.run_book_rules.Reads as reads
 use Rattle.tagger.proofs.run_book_rules.Lts as lts
 use Rattle.limits.proofs.in_range.Reads as in-range-reads
 use Rattle.tagger.proofs.run_within.Reads as run-within-reads
-use Rattle.tagger.proofs.run_sets.Reads as run-sets-reads
 use Rattle.words.proofs.lesser.Reads as lesser-reads
 
 in-range-requires : tie.Need-in-range-requires
@@ -38,16 +34,10 @@ lesser-requires c κs = search needs
 slice-aggregate-run-within : tie.Need-slice-aggregate-run-within
 slice-aggregate-run-within c = search needs
 
-ranged : (c : tie.Then1) → InRange (c .before .before .before .before .before .before .args .lim)
-ranged c = in-range (c .before .before .before .before .before .before .args .lim) (sym (c .before .in-range .ensures) ∙ c .if1 .taken)
-
 run-within-requires : tie.Need-run-within-requires
-run-within-requires c κs = (omega (arith, c .before .before .before .before .lesser .ensures), (ranged (c .before .before .before .before .before), no-rows, refl))
-
-run-sets-requires : tie.Need-run-sets-requires
-run-sets-requires c κs =
-    let kept = if-met _ _ _ (c .before .before .if2 .taken) (c .before .before .before .before .before .before .before .before .run-within .ensures) in
-    (omega (arith, c .before .before .before .before .before .before .before .before .before .before .before .before .before .lesser .ensures, ap length (kept .1)), ranged (c .before .before .before .before .before .before .before .before .before .before .before .before .before .before))
+run-within-requires c κs =
+    let a = c .before .before .before .before .before .before .before .before .before .before .args in
+    (omega (arith, c .before .before .before .lesser .ensures), in-range (a .lim) (sym (c .before .before .before .before .before .in-range .ensures) ∙ c .before .before .before .before .if1 .taken), no-rows)
 
 same-length : tie.Need-same-length
 same-length c = search needs
@@ -57,34 +47,15 @@ same-length-2 c = search needs
 
 returns : tie.Need-returns
 returns c =
-    let a = c .before .before .before .before .before .before .before .before .before .before .before .before .before .before .before .before .before .before .before .before .before .before .before .before .before .args in
-    let l = c .before .before .before .before .before .before .before .before .before .before .before .before .before .before .before .before .before .before .lesser in
-    let kept = if-met _ _ _ (c .before .before .before .before .before .before .before .if2 .taken) (c .before .before .before .before .before .before .before .before .before .before .before .before .before .run-within .ensures) in
-    let u = c .before .before .before .before .run-sets in (
-      subst (λ (n : ℕ). Ran (bookRun (a .lim) (a .book .now) (a .end) (a .sentence .now) n) (a .sentence .now) (a .out .now) (u .last .1 .1 .1 .0) (u .result)) (l .ensures)
-          (subst (λ (x : List ℕ). Ran (bookRun (a .lim) (a .book .now) (a .end) (a .sentence .now) (l .result)) (a .sentence .now) x (u .last .1 .1 .1 .0) (u .result)) (kept .1) (u .ensures .0)),
-      u .ensures .1 (omega (arith, l .ensures, ap length (kept .2)))
-          ∙ ap₂ (λ (n : ℕ) (x : List ℕ). written (bookNumbers (a .lim) (a .book .now) (a .end) (a .sentence .now) n) x) (l .ensures) (kept .2),
+    let a = c .before .before .before .before .before .before .before .before .before .before .before .before .before .before .before .before .args in
+    let l = c .before .before .before .before .before .before .before .before .before .lesser in
+    let u = c .before .before .before .before .before .run-within in (
+      subst (λ (n : ℕ). Ran (bookRun (a .lim) (a .book .now) (a .end) (a .sentence .now) n) (a .sentence .now) (a .out .now) (u .last .1 .1 .1 .0) (u .result)) (l .ensures) (u .ensures .0),
+      u .ensures .1 (omega (arith, l .ensures)) ∙ ap (λ (n : ℕ). written (bookNumbers (a .lim) (a .book .now) (a .end) (a .sentence .now) n) (a .rules .now)) (l .ensures),
     )
-
-same-length-3 : tie.Need-same-length-3
-same-length-3 c = search needs
-
-same-length-4 : tie.Need-same-length-4
-same-length-4 c = search needs
 
 returns-2 : tie.Need-returns-2
 returns-2 c =
-    let a = c .before .before .before .before .before .before .before .before .before .before .before .before .before .before .before .before .before .before .args in
-    let l = c .before .before .before .before .before .before .before .before .before .before .before .lesser in
-    let u = c .before .before .before .before .before .before .run-within in
-    let done = if-not-met _ _ _ (c .if2 .left) (u .ensures) in (
-      subst (λ (n : ℕ). Ran (bookRun (a .lim) (a .book .now) (a .end) (a .sentence .now) n) (a .sentence .now) (a .out .now) (u .last .1 .1 .1 .0) (u .result)) (l .ensures) (done .0),
-      done .1 (omega (arith, l .ensures)) ∙ ap (λ (n : ℕ). written (bookNumbers (a .lim) (a .book .now) (a .end) (a .sentence .now) n) (a .rules .now)) (l .ensures),
-    )
-
-returns-3 : tie.Need-returns-3
-returns-3 c =
     let a = c .before .before .before .before .before .before .args in
     let room = min (length (a .out .now)) (length (a .rules .now)) in
     let out = sym (c .before .in-range .ensures) ∙ c .if1 .left in (
@@ -97,16 +68,4 @@ returns-3 c =
 pub run-book-rules-spec : {M : Type 1} → statement M
 run-book-rules-spec =
     tie.close
-    (tie.spec
-    in-range-requires
-    lesser-requires
-    slice-aggregate-run-within
-    run-within-requires
-    run-sets-requires
-    same-length
-    same-length-2
-    returns
-    same-length-3
-    same-length-4
-    returns-2
-    returns-3)
+    (tie.spec in-range-requires lesser-requires slice-aggregate-run-within run-within-requires same-length same-length-2 returns returns-2)
