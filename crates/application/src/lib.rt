@@ -6,20 +6,72 @@ use limits::PATTERN;
 use limits::RULES;
 use words::lesser;
 ghost use mathlib.Core.Path.{_≡_};
-ghost use Prim.Native.Nat.{_<_};
-ghost use lib.ListN.{length, replicate};
-ghost use Rattle.limits.specs.Limits.{no-end};
+ghost use Prim.Native.Nat.{ℕ, _+_, _≤_, _<_};
+ghost use lib.ListN.{length, drop, replicate};
+ghost use Rattle.limits.specs.Limits.{no-end, most-rules};
 ghost use Rattle.words.specs.Word.{Below};
 ghost use Rattle.words.specs.Pieces.{piecewise};
 ghost use Rattle.words.specs.Parts.{Begun};
 ghost use Rattle.cascades.specs.Rewrite.{applyAll};
-ghost use Rattle.books.specs.Arrays.{arrays, rulesOf};
+ghost use Rattle.books.specs.Arrays.{arrays, setsAt, rulesOf};
 ghost use Rattle.endings.specs.Usable.{Usable};
 ghost use Rattle.traces.specs.Trace.{beside, traceFrom, numbersOf};
 ghost use Rattle.application.specs.Pieces.{FirstPiece};
 
+// The rules of the arrays from `from` on and before m, which have no sets, applied to s in order, and their numbers.
+pub fn apply_tags(
+    s: &mut [u8],
+    v: &mut [u8],
+    rows: &[[u8; PATTERN]; RULES],
+    lengths: &[usize; RULES],
+    heads: &[[u8; HEAD]; RULES],
+    sets: &[[u64; PATTERN]],
+    from: usize,
+    m: usize,
+)
+    requires { ⌜ Usable m (arrays rows lengths heads (now sets)) × (from ≤ m) × ((i : ℕ) → from ≤ i → i < m → setsAt (arrays rows lengths heads (now sets)) i ≡ 0) ⌝ }
+    ensures s { λ _. ⌜ now (s .exit) ≡ applyAll (drop from (rulesOf (arrays (rows .entry) (lengths .entry) (heads .entry) (now (sets .entry))) m)) (now (s .entry)) ⌝ }
+    ensures v { λ _. ⌜ now (v .exit) ≡ traceFrom (from + 1) (drop from (rulesOf (arrays (rows .entry) (lengths .entry) (heads .entry) (now (sets .entry))) m)) (beside (now (s .entry)) (now (v .entry))) .numbers ⌝ }
+{
+    let mut i = from;
+    while i < m {
+        let rule = reader::rule_at(rows, lengths, heads, sets, i);
+        let number = i + 1;
+        rewriting::apply_tags(s, v, rule, number as u8);
+        i = number;
+    }
+}
+
+// The first m rules, which may have sets: those before the last, then the last. It calls itself so that it stays a call: in the place of the call,
+// its search would take the registers of what goes on there.
+fn apply_sets(
+    s: &mut [u8],
+    v: &mut [u8],
+    rows: &[[u8; PATTERN]; RULES],
+    lengths: &[usize; RULES],
+    heads: &[[u8; HEAD]; RULES],
+    sets: &[[u64; PATTERN]],
+    m: usize,
+)
+    requires { ⌜ Usable m (arrays rows lengths heads (now sets)) × (length (now sets) ≡ most-rules) ⌝ }
+    ensures s { λ _. ⌜ now (s .exit) ≡ applyAll (rulesOf (arrays (rows .entry) (lengths .entry) (heads .entry) (now (sets .entry))) m) (now (s .entry)) ⌝ }
+    ensures v { λ _. ⌜ now (v .exit) ≡ traceFrom 1 (rulesOf (arrays (rows .entry) (lengths .entry) (heads .entry) (now (sets .entry))) m) (beside (now (s .entry)) (now (v .entry))) .numbers ⌝ }
+{
+    if m == 0 {
+        return;
+    }
+    let last = m - 1;
+    apply_sets(s, v, rows, lengths, heads, sets, last);
+    let rule = reader::rule_at(rows, lengths, heads, sets, last);
+    if rule.sets == 0 {
+        apply_tags(s, v, rows, lengths, heads, sets, last, m);
+    } else {
+        rewriting::apply_sets(s, v, rule, &sets[last], m as u8);
+    }
+}
+
 // The first m rules of the arrays, applied to s in order, and their numbers.
-pub fn apply_rules(
+fn apply_rules(
     s: &mut [u8],
     v: &mut [u8],
     rows: &[[u8; PATTERN]; RULES],
@@ -32,12 +84,10 @@ pub fn apply_rules(
     ensures s { λ _. ⌜ now (s .exit) ≡ applyAll (rulesOf (arrays (rows .entry) (lengths .entry) (heads .entry) (now (sets .entry))) m) (now (s .entry)) ⌝ }
     ensures v { λ _. ⌜ now (v .exit) ≡ traceFrom 1 (rulesOf (arrays (rows .entry) (lengths .entry) (heads .entry) (now (sets .entry))) m) (beside (now (s .entry)) (now (v .entry))) .numbers ⌝ }
 {
-    let mut i = 0;
-    while i < m {
-        let rule = reader::rule_at(rows, lengths, heads, sets, i);
-        let number = i + 1;
-        rewriting::apply_rule(s, v, rule, sets, i, number as u8);
-        i = number;
+    if sets.len() == 0 {
+        apply_tags(s, v, rows, lengths, heads, sets, 0, m);
+    } else {
+        apply_sets(s, v, rows, lengths, heads, sets, m);
     }
 }
 

@@ -7,7 +7,7 @@ use mathlib.Core.List.{List, [], _∷_, _++_}
 use mathlib.Core.Bool.{Bool, true, false}
 use mathlib.Core.Logic.{_⊎_, inl, inr}
 use lib.ListN.{length, getD, set, take, length-reverse}
-use Rattle.limits.specs.Limits.{most-rules, longest-pattern}
+use Rattle.limits.specs.Limits.{most-rules, most-tags, longest-pattern}
 use Rattle.limits.specs.declared.Limits.{Limits}
 use Rattle.answers.specs.Outcome.{Outcome, result, refused, byte}
 use Rattle.answers.specs.Answer.{refusal}
@@ -29,6 +29,7 @@ use Rattle.books.specs.declared.Places.{Places}
 use Rattle.books.specs.declared.Next.{Next}
 use Rattle.books.proofs.Arrays.{down-length, tagged-arrays, placed-arrays, row-shaped, rows-shaped, row-down, tagged-shaped, tagged-down, placed-shaped, placed-down, untagged-down}
 use Rattle.books.proofs.SoFar.{SoFar, so-far-placed, so-far-cut}
+use Rattle.books.proofs.Commands.{command-missing}
 
 module _ {lim : Limits} (s : List ℕ) (from : Outcome Cascade) (next : ℕ) (a : Arrays) (h : Shaped a) where
   pub resumes-refused : (r : Reading) (n at : ℕ) → r ≡ Refused (AtByte n at) → from ≡ refused n (byte at) → Resumes lim s from next a r
@@ -50,6 +51,13 @@ opens-refused k m a r n at e = record { one-more = λ k' m' g. let z : _≡_ {A 
 
 pub opens-book : (k m : ℕ) (a : Arrays) → m < most-rules → (getD (a .lengths) m 0 ≡ 0) × (setsAt a m ≡ 0) → Opens k m a (Book k (m + 1))
 opens-book k m a few none = record { one-more = λ k' m' g. (cc, cc, few, none .0, none .1) }
+
+-- a set that there is no room for
+pub resumes-sets : {lim : Limits} (s : List ℕ) (from : Outcome Cascade) (next k m : ℕ) (a : Arrays) → Shaped a → length (a .sets) ≡ 0 → Resumes lim s from next a Sets × Opens k m a Sets
+resumes-sets s from next k m a h none = (
+  record { goes-on = none; inside = λ k' m' g. let z : _≡_ {A = ℕ} 0 1 = cc in absurd (omega arith); shaped = h },
+  record { one-more = λ k' m' g. let z : _≡_ {A = ℕ} 0 1 = cc in absurd (omega arith) },
+)
 
 -- ---- the places of a pattern
 
@@ -134,39 +142,14 @@ module _ (lim : Limits) (s : List ℕ) (k m from : ℕ) (a : Arrays) (h : Shaped
     tags-follow : tagsOutcome lim s k (ruleAt a m) (rulesDown a m) row t ≡ whole
     tags-follow = sym (got .goes-on lim (ruleAt a m) (rulesDown a m) refl) ∙ begins
 
-    pub row-same : readCommands lim s k (m + 1) row-written from ≡ whole
-    row-same = cc (row-down a h m few row (got .long) no-sets none, add-one m)
+    module _ (all : Outcome Cascade) (is : whole ≡ all) where
+      pub tags-end : (n b : ℕ) (r : Reading) → t ≡ Tags.Refused n b → r ≡ Refused (AtByte n b) → Reads all row-written r
+      tags-end n b r e f =
+          record { outcome = subst (λ (x : Reading). ReadAs x row-written all) (sym f) (cc (tags-follow, is)); shaped = row-shaped a h m few row (got .long) no-sets }
 
-    pub row-still : Shaped row-written
-    row-still = row-shaped a h m few row (got .long) no-sets
-
-    pub tags-end : (n b : ℕ) → t ≡ Tags.Refused n b → PatternRead lim s from k (m + 1) whole row-written (Next.Refused n b)
-    tags-end n b e =
-        record {
-          goes-on = cc tags-follow;
-          inside = λ at g. let z : _≡_ {A = ℕ} 0 1 = cc in absurd (omega arith);
-          other = λ at g. let z : _≡_ {A = ℕ} 0 1 = cc in absurd (omega arith);
-          shaped = row-still;
-        }
-
-    pub tags-sets : length (a .sets) ≡ 0 → PatternRead lim s from k (m + 1) whole row-written Next.Sets
-    tags-sets e =
-        record {
-          goes-on = e;
-          inside = λ at g. let z : _≡_ {A = ℕ} 0 1 = cc in absurd (omega arith);
-          other = λ at g. let z : _≡_ {A = ℕ} 0 1 = cc in absurd (omega arith);
-          shaped = row-still;
-        }
-
-    pub tags-done : (at n : ℕ) → t ≡ Tags.To at n → (at < length s → getD s at 0 ≡ 0x23 → ⊥) → PatternRead lim s from k (m + 1) whole (tagged-arrays a m row n) (Next.To at)
-    tags-done at n e other =
-        let i = got .inside at n e in
-        record {
-          goes-on = cc (tagged-down a h m few row (got .long) no-sets n, add-one m, tags-follow);
-          inside = λ at' g. let f : at ≡ at' = cc in (omega (arith, i .0), omega (arith, i .1));
-          other = λ at' g. let f : at ≡ at' = cc in subst (λ (x : ℕ). x < length s → (getD s x 0 ≡ 0x22 → ⊥) × (getD s x 0 ≡ 0x23 → ⊥)) f (λ l. (i .3 l, other l));
-          shaped = tagged-shaped a h m few row (got .long) no-sets n (i .2);
-        }
+      pub tags-done : (at n m' : ℕ) → t ≡ Tags.To at n → m' ≡ m + 1 → (readCommands lim s k m' (tagged-arrays a m row n) at ≡ all) × Shaped (tagged-arrays a m row n)
+      tags-done at n m' e one =
+          (cc (tagged-down a h m few row (got .long) no-sets n, add-one m, one, tags-follow, is), tagged-shaped a h m few row (got .long) no-sets n (got .inside at n e .2))
 
   -- its tags and sets
   module _ (row sets : List ℕ) (t : Places) (got : PlacesRead s from k (lim .pattern) row sets t) (room : m < length (a .sets)) where
@@ -202,15 +185,8 @@ module _ (lim : Limits) (s : List ℕ) (from k m : ℕ) (part whole : Outcome Ca
         shaped = got .shaped;
       }
 
-  pub pattern-sets : t ≡ Next.Sets → Reads whole a Sets
-  pattern-sets e = record { outcome = subst (λ (x : Next). Continued lim s k m a x part) e (got .goes-on); shaped = got .shaped }
-
   pub pattern-goes-on : (at m' : ℕ) → t ≡ Next.To at → m' ≡ m → readCommands lim s k m' a at ≡ whole
   pattern-goes-on at m' e f = ap (λ (n : ℕ). readCommands lim s k n a at) f ∙ subst (λ (x : Next). Continued lim s k m a x part) e (got .goes-on) ∙ w
-
-  -- the same reading
-  pub pattern-same : PatternRead lim s from k m whole a t
-  pattern-same = subst (λ (o : Outcome Cascade). PatternRead lim s from k m o a t) w got
 
 -- an answer that is no book, by its number among the cases, is the outcome of the reading that it resumes
 pub other-ends : {lim : Limits} (tag : Reading → ℕ) → ((k m : ℕ) → tag (Book k m) ≡ 0) → (s : List ℕ) (from whole : Outcome Cascade) (next : ℕ) (a : Arrays) (r : Reading)
@@ -218,18 +194,24 @@ pub other-ends : {lim : Limits} (tag : Reading → ℕ) → ((k m : ℕ) → tag
 other-ends tag book s from whole next a (Book k m) (inl e) f w = absurd (omega (arith, e, book k m))
 other-ends tag book s from whole next a (Book k m) (inr e) f w = absurd (omega (arith, e, book k m))
 other-ends tag book s from whole next a (Refused x) d f w = record { outcome = f .goes-on ∙ w; shaped = f .shaped }
-other-ends tag book s from whole next a Sets d f w = absurd (f .goes-on)
+other-ends tag book s from whole next a Sets d f w = record { outcome = f .goes-on; shaped = f .shaped }
+
+-- the commands end where one is to come
+pub reading-missing : (lim : Limits) (s : List ℕ) (k m : ℕ) (a : Arrays) (at : ℕ) → at ≡ length s → (r : Reading) → r ≡ Refused (AtByte 1 at) → Shaped a
+    → (whole : Outcome Cascade) → readCommands lim s k m a at ≡ whole → Reads whole a r
+reading-missing lim s k m a at e r f h whole w =
+    record { outcome = subst (λ (x : Reading). ReadAs x a whole) (sym f) (sym (command-missing lim s k m a at e) ∙ w); shaped = h }
 
 -- the reading of all the bytes has ended
 pub ends-whole : {lim : Limits} (s : List ℕ) (from : Outcome Cascade) (a : Arrays) (r : Reading) → from ≡ read lim s → Reads from a r → Whole lim s a r
 ends-whole s from a r e h = record { outcome = subst (ReadAs r a) e (h .outcome); shaped = h .shaped }
 
--- a book so far goes on at the next command
-pub book-goes-on : {lim : Limits} (s : List ℕ) (from whole : Outcome Cascade) (next next' : ℕ) (a : Arrays) (r : Reading) (k m : ℕ) → Resumes lim s from next a r
-    → r ≡ Book k m → from ≡ whole → next ≡ next' → (m ≤ most-rules) × (next' ≤ length s) × Shaped a × (readCommands lim s k m a next' ≡ whole)
-book-goes-on {lim} s from whole next next' a r k m f e w n =
-    let i = f .inside k m e in
-    (i .0, omega (arith, i .1), f .shaped, cc (subst (λ (y : Reading). Resumed lim s next a y from) e (f .goes-on)))
+-- 20 and K have been read: the commands come next
+pub book-opened : {lim : Limits} (s : List ℕ) (a : Arrays) (r : Reading) (k m : ℕ) → Resumes lim s (read lim s) 2 a r → NoRule r → r ≡ Book k m
+    → (2 ≤ length s) × (k ≤ most-tags) × (readCommands lim s k 0 a 2 ≡ read lim s)
+book-opened {lim} s a r k m f none e =
+    let n = none k m e in
+    (f .inside k m e .1, n .0, ap (λ (x : ℕ). readCommands lim s k x a 2) (sym (n .1)) ∙ subst (λ (y : Reading). Resumed lim s 2 a y (read lim s)) e (f .goes-on))
 
 -- a rule has been opened: its tags come next
 pub rule-goes-on : {lim : Limits} (s : List ℕ) (from whole : Outcome Cascade) (k m next next' : ℕ) (a : Arrays) (r : Reading) (k' m' : ℕ) → Resumes lim s from next a r

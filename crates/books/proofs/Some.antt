@@ -24,7 +24,7 @@ module _ (is : Rule → Bool) (some : List Rule → Bool) (nil : some [] ≡ fal
       or-assoc false b c = refl
 
   module _ (a : Arrays) where
-    one-more : (i : ℕ) → some (rulesOf a (suc i)) ≡ (some (rulesOf a i) || is (ruleAt a i))
+    pub one-more : (i : ℕ) → some (rulesOf a (suc i)) ≡ (some (rulesOf a i) || is (ruleAt a i))
     one-more i = ap some (reverse-cons (ruleAt a i) (rulesDown a i)) ∙ some-append (rulesOf a i) (ruleAt a i)
 
     -- none so far, and not this one

@@ -30,11 +30,11 @@ ReadAs Sets a o = length (a .sets) ≡ 0
 abbrev pub readCommands : Limits → List ℕ → ℕ → ℕ → Arrays → ℕ → Outcome Cascade
 readCommands lim s k m a at = readFrom lim (command k (rulesDown a m)) at (drop at s)
 
--- what an answer goes on to, with the next command at `next`
+-- what an answer goes on to, with the next command at `next`; it is `Sets` only where the arrays have no room for sets
 abbrev pub Resumed : Limits → List ℕ → ℕ → Arrays → Reading → Outcome Cascade → Type 0
 Resumed lim s next a (Book k m) o = readCommands lim s k m a next ≡ o
 Resumed lim s next a (Refused r) o = refusal r ≡ o
-Resumed lim s next a Sets o = ⊥
+Resumed lim s next a Sets o = length (a .sets) ≡ 0
 
 -- one part of the bytes s has been read: the whole reading, `from`, goes on at `next` with the answer
 pub record Resumes (lim : Limits) (s : List ℕ) (from : Outcome Cascade) (next : ℕ) (a : Arrays) (answer : Reading) : Type 0 where
@@ -102,11 +102,10 @@ abbrev pub numberAt : List ℕ → ℕ → ℕ → ℕ
 numberAt s at zero = 0
 numberAt s at (suc n) = numberAt s at n * 0x100 + getD s (at + n) 0
 
--- what an answer goes on to, with the pattern of the last of m rules in the arrays; it is `Sets` only where they have no room for sets
+-- what an answer goes on to, with the pattern of the last of m rules in the arrays
 abbrev pub Continued : Limits → List ℕ → ℕ → ℕ → Arrays → Next → Outcome Cascade → Type 0
 Continued lim s k m a (Next.To at) o = readCommands lim s k m a at ≡ o
 Continued lim s k m a (Next.Refused n b) o = refused n (byte b) ≡ o
-Continued lim s k m a Next.Sets o = length (a .sets) ≡ 0
 
 -- the pattern of the last of m rules has been read, from the byte `from` on, up to a command that is neither 22 nor 23
 pub record PatternRead (lim : Limits) (s : List ℕ) (from k m : ℕ) (whole : Outcome Cascade) (a : Arrays) (answer : Next) : Type 0 where

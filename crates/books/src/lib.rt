@@ -43,9 +43,8 @@ pub enum Place {
     Refused { number: u8, byte: usize },
 }
 
-// Where the commands after a pattern begin; or the refusal; or that there is a set, for which the arrays have no room.
+// Where the commands after a pattern begin; or the refusal.
 pub enum Next {
     To(usize),
     Refused { number: u8, byte: usize },
-    Sets,
 }

@@ -8,13 +8,12 @@ use mathlib.Core.Bool.{Bool, true, false, false≢true}
 use mathlib.Core.List.{List, [], _∷_, _++_}
 use borrow.Author.Tests.{eq-eqb, eqb-true}
 use lib.Dec.{eqb}
-use lib.ListN.{length, take, drop, getD, List·getD-eq-default}
+use lib.ListN.{length, take, drop, getD}
 use lib.Pow.{pow-mono}
-use lib.Seq.{getD-take, length-take-le}
-use Rattle.limits.specs.Limits.{longest-pattern}
+use lib.Seq.{getD-take}
 use Rattle.words.specs.Word.{prefix}
 use Rattle.cascades.specs.Pattern.{Class, one, any, member, accepts, fits, someSet, word, plain}
-use Rattle.cascades.specs.Value.{classOf, places, lastSet, ruleOf, Formed, SetRow}
+use Rattle.cascades.specs.Value.{classOf, places, lastSet, ruleOf}
 use Rattle.cascades.specs.declared.Rule.{Rule as Value}
 use Rattle.cascades.specs.Leftmost.{Match}
 
@@ -205,24 +204,6 @@ none-later u i p h e = none-from u p (by (decLt i (lastSet u)))
     by (yes l) = absurd (false≢true (sym e ∙ some-from u i l))
     by (no l) = omega arith
 
--- ---- the row of a rule's sets
-
-pub set-row : (sets : List (List ℕ)) (i : ℕ) (v : Value) → Formed v (getD sets i []) → (i < length sets → length (getD sets i []) ≡ longest-pattern) → SetRow sets i (v .sets)
-set-row sets i v f long =
-    record {
-      few =
-          omega (
-            arith,
-            f .last-is,
-            last-inside (ruleOf v (getD sets i []) .pattern),
-            places-length (take (v .length) (v .row)) (take (v .sets) (getD sets i [])),
-            length-take-le (v .length) (v .row) (omega (arith, f .row-long, f .length-short)),
-            f .length-short,
-          );
-      there = λ some. by some (decLt i (length sets));
-      long = long;
-    }
-  where
-    by : 0 < v .sets → Dec (i < length sets) → i < length sets
-    by some (yes l) = l
-    by some (no l) = absurd (omega (arith, f .sets-long, ap length (List·getD-eq-default sets [] {n = i} (omega arith))))
+-- the pattern of a rule without sets
+pub plain-pattern : (v : Value) (ss : List ℕ) → v .sets ≡ 0 → plain (take (v .length) (v .row)) ≡ ruleOf v ss .pattern
+plain-pattern v ss e = let u = take (v .length) (v .row) in sym (ap (λ (n : ℕ). places u (take n ss)) e ∙ places-plain u)

@@ -1,10 +1,10 @@
 -- A rule by its parts, and as one value of the code with its sets beside.
-use Prim.Native.Nat.{ℕ, suc, _≤_, _<_}
+use Prim.Native.Nat.{ℕ, suc, _≤_}
 use mathlib.Core.Path.{_≡_}
 use mathlib.Core.Bool.{Bool, true, false}
 use mathlib.Core.List.{List, [], _∷_}
 use lib.Dec.{eqb}
-use lib.ListN.{length, take, getD}
+use lib.ListN.{length, take}
 use Rattle.limits.specs.Limits.{longest-pattern}
 use Rattle.cascades.specs.Pattern.{Class, one, any, someSet, word, plain}
 use Rattle.cascades.specs.Rule.{Kind, once, everywhere, Rule}
@@ -46,9 +46,3 @@ pub record Formed (v : Value) (ss : List ℕ) : Type 0 where
   pub sets-long : v .sets ≤ length ss
   pub last-is : lastSet (ruleOf v ss .pattern) ≡ v .sets
   pub word-is : word (ruleOf v ss .pattern) ≡ take (v .length) (v .row)
-
--- row i of the sets, where a rule has any: n of its places may be sets
-pub record SetRow (sets : List (List ℕ)) (i n : ℕ) : Type 0 where
-  pub few : n ≤ longest-pattern
-  pub there : 0 < n → i < length sets
-  pub long : i < length sets → length (getD sets i []) ≡ longest-pattern

@@ -2,8 +2,10 @@
 use Prim.Native.Nat.{ℕ, zero, suc, _+_, _<_, _≤_}
 use native.Mathlib.Omega.{arith}
 use native.Mathlib.Decide.{ℕ-discrete, decLt}
+use native.Mathlib.Numerals.{add-one}
 use mathlib.Core.Path.{_≡_, refl, sym, ap, ap₂, _∙_}
 use mathlib.Core.Bool.{Bool, true, false, not, _&&_, _||_}
+use mathlib.Core.Logic.{⊎-elim}
 use mathlib.Core.List.{List, [], _∷_}
 use borrow.Author.Tests.{eq-eqb, ne-eqb, le-leb, lt-leb}
 use lib.Dec.{eqb, leb}
@@ -18,9 +20,9 @@ use Rattle.cascades.specs.Ending.{before, misused, someMisused, badEnd}
 use Rattle.cascades.proofs.Pattern.{places-length, places-at}
 use Rattle.cascades.proofs.Ending.{misused-outside}
 use Rattle.limits.specs.Limits.{most-rules, most-tags, no-end}
-use Rattle.books.specs.Arrays.{Arrays, Shaped, RulesHeld, placeAt, ruleAt, cascadeOf}
+use Rattle.books.specs.Arrays.{Arrays, Shaped, RulesHeld, placeAt, ruleAt, rulesOf, cascadeOf}
 use Rattle.books.proofs.Arrays.{pattern-long}
-use Rattle.books.proofs.Some.{not-one}
+use Rattle.books.proofs.Some.{one-more, not-one}
 use Rattle.endings.specs.Usable.{Usable}
 
 -- ---- the places of a pattern
@@ -102,6 +104,20 @@ rule-inside a i v ss e f s h l =
 pub tag-at : (v : Value) (ss : List ℕ) → Formed v ss → v .place < v .length → getD (word (ruleOf v ss .pattern)) (v .place) 0 ≡ getD (v .row) (v .place) 0
 tag-at v ss f h = ap (λ (w : List ℕ). getD w (v .place) 0) (f .word-is) ∙ getD-take (v .length) (v .row) (v .place) 0 h
 
+-- some of m rules misuses the tag where some before the last does, or else where the last does
+module _ (e : ℕ) (a : Arrays) (m n : ℕ) (next : n + 1 ≡ m) (b : Bool) (is : b ≡ someMisused e (rulesOf a n)) where
+  some-of : someMisused e (rulesOf a m) ≡ (b || misused e (ruleAt a n))
+  some-of =
+      ap (λ (i : ℕ). someMisused e (rulesOf a i)) (sym next ∙ add-one n)
+      ∙ one-more (misused e) (someMisused e) refl (λ r rs. refl) a n
+      ∙ ap (λ (x : Bool). x || misused e (ruleAt a n)) (sym is)
+
+  pub some-before : b ≡ true → true ≡ someMisused e (rulesOf a m)
+  some-before h = sym (some-of ∙ ap (λ (x : Bool). x || misused e (ruleAt a n)) h)
+
+  pub some-last : b ≡ false → misused e (ruleAt a n) ≡ someMisused e (rulesOf a m)
+  some-last h = sym (some-of ∙ ap (λ (x : Bool). x || misused e (ruleAt a n)) h)
+
 -- ---- the three tests of a book
 
 module _ (c : Cascade) where
@@ -127,6 +143,21 @@ usable k m a h =
       plain-from = λ i l. h .valid i l .sets-before;
       new = λ i l. h .valid i l .tag-new;
     }
+
+-- the first n of m rules
+pub usable-less : (n m : ℕ) (a : Arrays) → n ≤ m → Usable m a → Usable n a
+usable-less n m a h u =
+    record {
+      shaped = u .shaped;
+      few = omega (arith, u .few);
+      inside = λ i l. u .inside i (omega arith);
+      plain-from = λ i l. u .plain-from i (omega arith);
+      new = λ i l. u .new i (omega arith);
+    }
+
+-- rows for sets, if there are any, are rows for all rules
+pub all-rows : (a : Arrays) → Shaped a → (length (a .sets) ≡ 0 → ⊥) → length (a .sets) ≡ most-rules
+all-rows a s some = ⊎-elim (λ none. absurd (some none)) (λ all. all) (s .sets-long)
 
 -- a rule of a book that can be used with the end tag
 pub rule-used : {l : ℕ} (k m e : ℕ) (a : Arrays) → k ≤ most-tags → RulesHeld l k m a → badEnd (ending e (cascadeOf k a m)) ≡ false

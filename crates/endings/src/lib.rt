@@ -6,13 +6,13 @@ use cascades::set_at;
 use limits::PATTERN;
 use limits::RULES;
 ghost use mathlib.Core.Path.{_≡_};
-ghost use Prim.Native.Nat.{_≤_, _<_};
-ghost use mathlib.Core.List.{[]};
-ghost use lib.ListN.{length, take, getD};
+ghost use Prim.Native.Nat.{ℕ, _≤_, _<_};
+ghost use mathlib.Core.List.{List};
+ghost use lib.ListN.{length, take};
 ghost use Rattle.limits.specs.Limits.{most-rules, longest-pattern};
 ghost use Rattle.cascades.specs.Pattern.{plain};
 ghost use Rattle.cascades.specs.Rule.{ending};
-ghost use Rattle.cascades.specs.Value.{places, ruleOf, Formed, SetRow};
+ghost use Rattle.cascades.specs.Value.{places, ruleOf, Formed};
 ghost use Rattle.cascades.specs.Ending.{before, misused, someMisused, badEnd};
 ghost use Rattle.books.specs.Arrays.{arrays, rulesOf, cascadeOf};
 ghost use Rattle.endings.specs.Usable.{Usable};
@@ -55,29 +55,14 @@ fn accepts_before(u: &[u8], sets: &[u64; PATTERN], n: usize, end: u8) -> bool
     false
 }
 
-// Whether a place before the last of the rule's pattern accepts the tag. The rule is the one of the row i of sets.
-fn early(rule: Rule, sets: &[[u64; PATTERN]], i: usize, end: u8) -> bool
-    requires { ⌜ Formed rule (getD (now sets) i []) × SetRow (now sets) i (rule .sets) × (i < most-rules) ⌝ }
-    ensures { λ r. ⌜ r ≡ before end (ruleOf rule (getD (now (sets .entry)) i []) .pattern) ⌝ }
-{
-    let row = rule.row;
-    let n = rule.length;
-    let last = rule.sets;
-    if last == 0 {
-        return stands_before(&row[..n], end);
-    }
-    let places = sets[i];
-    accepts_before(&row[..n], &places, last, end)
-}
-
-// Whether a rule's pattern has the end tag before its last place, or the rule changes or makes it.
-fn misuses(rule: Rule, sets: &[[u64; PATTERN]], i: usize, end: u8) -> bool
-    requires { ⌜ Formed rule (getD (now sets) i []) × SetRow (now sets) i (rule .sets) × (rule .place < rule .length) × (i < most-rules) ⌝ }
-    ensures { λ r. ⌜ r ≡ misused end (ruleOf rule (getD (now (sets .entry)) i [])) ⌝ }
+// Whether a rule misuses the end tag: its pattern has it before its last place, which `early` tells, or the rule changes or makes it.
+fn misuses(rule: Rule, early: bool, end: u8) -> bool
+    requires { ⌜ (rule .place < rule .length) × (rule .length ≤ longest-pattern) × (length (rule .row) ≡ longest-pattern) ⌝ }
+    ensures { λ r. ⌜ ((ss : List ℕ) → Formed rule ss → early ≡ before end (ruleOf rule ss .pattern) → r ≡ misused end (ruleOf rule ss)) ⌝ }
 {
     let row = rule.row;
     let place = rule.place;
-    if early(rule, sets, i, end) {
+    if early {
         return true;
     }
     if row[place] == end {
@@ -86,7 +71,7 @@ fn misuses(rule: Rule, sets: &[[u64; PATTERN]], i: usize, end: u8) -> bool
     rule.tag == end
 }
 
-// Whether some rule does.
+// Whether some rule does, where none has a set.
 fn some_misuses(
     rows: &[[u8; PATTERN]; RULES],
     lengths: &[usize; RULES],
@@ -95,18 +80,48 @@ fn some_misuses(
     m: usize,
     end: u8,
 ) -> bool
-    requires { ⌜ Usable m (arrays rows lengths heads (now sets)) ⌝ }
+    requires { ⌜ Usable m (arrays rows lengths heads (now sets)) × (length (now sets) ≡ 0) ⌝ }
     ensures { λ r. ⌜ r ≡ someMisused end (rulesOf (arrays (rows .entry) (lengths .entry) (heads .entry) (now (sets .entry))) m) ⌝ }
 {
     let mut i = 0;
     while i < m {
         let rule = reader::rule_at(rows, lengths, heads, sets, i);
-        if misuses(rule, sets, i, end) {
+        let row = rule.row;
+        let n = rule.length;
+        let early = stands_before(&row[..n], end);
+        if misuses(rule, early, end) {
             return true;
         }
         i += 1;
     }
     false
+}
+
+// The same where rules may have sets: some of the first m rules does if some before the last does, or the last. It calls itself so that it stays a
+// call: in the place of the call, its loop would take the registers of the one above.
+fn some_misuses_sets(
+    rows: &[[u8; PATTERN]; RULES],
+    lengths: &[usize; RULES],
+    heads: &[[u8; HEAD]; RULES],
+    sets: &[[u64; PATTERN]],
+    m: usize,
+    end: u8,
+) -> bool
+    requires { ⌜ Usable m (arrays rows lengths heads (now sets)) × (length (now sets) ≡ most-rules) ⌝ }
+    ensures { λ r. ⌜ r ≡ someMisused end (rulesOf (arrays (rows .entry) (lengths .entry) (heads .entry) (now (sets .entry))) m) ⌝ }
+{
+    if m == 0 {
+        return false;
+    }
+    let last = m - 1;
+    if some_misuses_sets(rows, lengths, heads, sets, last, end) {
+        return true;
+    }
+    let rule = reader::rule_at(rows, lengths, heads, sets, last);
+    let row = rule.row;
+    let n = rule.length;
+    let early = accepts_before(&row[..n], &sets[last], rule.sets, end);
+    misuses(rule, early, end)
 }
 
 // Whether 14 is given for the end tag.
@@ -128,5 +143,8 @@ pub fn bad_end(
     if k <= end {
         return true;
     }
-    some_misuses(rows, lengths, heads, sets, m, end)
+    if sets.len() == 0 {
+        return some_misuses(rows, lengths, heads, sets, m, end);
+    }
+    some_misuses_sets(rows, lengths, heads, sets, m, end)
 }

@@ -22,7 +22,6 @@ use limits::PATTERN;
 use limits::RULES;
 use words::wide;
 ghost use mathlib.Core.Path.{_≡_};
-ghost use mathlib.Core.Bool.{false};
 ghost use Prim.Native.Nat.{_+_, _≤_, _<_};
 ghost use mathlib.Core.List.{[]};
 ghost use lib.ListN.{length, getD};
@@ -40,7 +39,10 @@ const ONCE: u8 = 0x21;
 
 const EVERYWHERE: u8 = 0x24;
 
-// The command at `at`, which is not 00, and 22 and 23 only where no rule is open.
+// The command that puts a set into a pattern.
+const SET: u8 = 0x23;
+
+// The command at `at`, which is not 00, and 22 only where no rule is open. It says so where 23 goes on with a rule, for which there is no room.
 fn read_rule(
     s: &[u8],
     at: usize,
@@ -53,7 +55,7 @@ fn read_rule(
     lim: Limits,
 ) -> Reading
     requires { ⌜ Shaped (arrays rows lengths heads (now sets)) ⌝ }
-    requires { ⌜ (m ≤ most-rules) × (at < length (now s)) × (getD (now s) at 0 ≡ 0 → ⊥) × (getD (now s) at 0 ≡ 0x22 → m ≡ 0) × (getD (now s) at 0 ≡ 0x23 → m ≡ 0) ⌝ }
+    requires { ⌜ (m ≤ most-rules) × (at < length (now s)) × (getD (now s) at 0 ≡ 0 → ⊥) × (getD (now s) at 0 ≡ 0x22 → m ≡ 0) × (getD (now s) at 0 ≡ 0x23 → (m ≡ 0 → ⊥) → length (now sets) ≡ 0) ⌝ }
     requires { ⌜ InRange lim ⌝ }
     ensures resumes { λ r. ⌜ Resumes lim (now (s .entry)) (readCommands lim (now (s .entry)) k m (arrays (rows .entry) (lengths .entry) (heads .entry) (now (sets .entry))) at) (at + 1 + 1 + 1) (arrays (rows .entry) (lengths .exit) (heads .exit) (now (sets .entry))) r ⌝ }
     ensures opens { λ r. ⌜ Opens k m (arrays (rows .entry) (lengths .exit) (heads .exit) (now (sets .entry))) r ⌝ }
@@ -62,11 +64,16 @@ fn read_rule(
     if command == ONCE || command == EVERYWHERE {
         return open_rule(s, at, k, m, rows, lengths, heads, sets, lim);
     }
+    if m != 0 {
+        if command == SET {
+            return Reading::Sets;
+        }
+    }
     refused(1, at)
 }
 
-// A rule's pattern that has a set, from the byte `from` on.
-fn read_sets(
+// A rule's pattern, which may have sets, from the byte `from` on.
+fn read_pattern(
     s: &[u8],
     from: usize,
     k: u8,
@@ -95,55 +102,48 @@ fn read_sets(
     }
 }
 
-// Whether 23 is at `at`.
-fn set_at(s: &[u8], at: usize) -> bool
-    ensures { λ r. ⌜ (r ≡ false → at < length (now (s .entry)) → getD (now (s .entry)) at 0 ≡ 0x23 → ⊥) ⌝ }
-{
-    if s.len() <= at {
-        return false;
-    }
-    if s[at] == 0x23 {
-        return true;
-    }
-    false
-}
-
-// A rule's pattern, from the byte `from` on.
-fn read_pattern(
+// The commands after 20 and K, where there is no room for sets.
+fn read_plain(
     s: &[u8],
-    from: usize,
     k: u8,
-    m: usize,
     rows: &mut [[u8; PATTERN]; RULES],
     lengths: &mut [usize; RULES],
     heads: &mut [[u8; HEAD]; RULES],
-    sets: &mut [[u64; PATTERN]],
+    sets: &[[u64; PATTERN]],
     lim: Limits,
-) -> Next
+) -> Reading
     requires { ⌜ Shaped (arrays rows lengths heads (now sets)) ⌝ }
-    requires { ⌜ (from ≤ length (now s)) × (k ≤ most-tags) × (m < most-rules) × (getD (lengths .now) m 0 ≡ 0) × (setsAt (arrays rows lengths heads (now sets)) m ≡ 0) ⌝ }
+    requires { ⌜ (2 ≤ length (now s)) × (length (now sets) ≡ 0) ⌝ }
     requires { ⌜ InRange lim ⌝ }
-    ensures { λ r. ⌜ PatternRead lim (now (s .entry)) from k (m + 1) (readCommands lim (now (s .entry)) k (m + 1) (arrays (rows .entry) (lengths .entry) (heads .entry) (now (sets .entry))) from) (arrays (rows .exit) (lengths .exit) (heads .exit) (now (sets .exit))) r ⌝ }
+    ensures { λ r. ⌜ Reads (readCommands lim (now (s .entry)) k 0 (arrays (rows .entry) (lengths .entry) (heads .entry) (now (sets .entry))) 2) (arrays (rows .exit) (lengths .exit) (heads .exit) (now (sets .entry))) r ⌝ }
 {
-    let tags = read_tags(s, from, k, &mut rows[m], lim.pattern);
-    match tags {
-        Tags::Refused { number, byte } => {
-            return Next::Refused { number, byte };
+    let mut m = 0;
+    let mut at = 2;
+    while at < s.len() {
+        let command = s[at];
+        if command == 0 {
+            return end_book(s, at, k, m, rows, lengths, heads, sets);
         }
-        Tags::To { at, n } => {
-            if set_at(s, at) {
-                if sets.len() == 0 {
-                    return Next::Sets;
-                }
-                return read_sets(s, from, k, m, rows, lengths, heads, sets, lim);
+        let got = read_rule(s, at, k, m, rows, lengths, heads, sets, lim);
+        let Reading::Book { tags: _, rules } = got else {
+            return got;
+        };
+        let tags = read_tags(s, at + 3, k, &mut rows[m], lim.pattern);
+        match tags {
+            Tags::Refused { number, byte } => {
+                return refused(number, byte);
             }
-            lengths[m] = n;
-            return Next::To(at);
+            Tags::To { at: to, n } => {
+                lengths[m] = n;
+                at = to;
+            }
         }
+        m = rules;
     }
+    refused(1, at)
 }
 
-// The commands after 20 and K.
+// The commands after 20 and K, where there is. It is a loop of its own, so that the one above is as quick as if there were no sets.
 fn read_commands(
     s: &[u8],
     k: u8,
@@ -154,7 +154,7 @@ fn read_commands(
     lim: Limits,
 ) -> Reading
     requires { ⌜ Shaped (arrays rows lengths heads (now sets)) ⌝ }
-    requires { ⌜ (2 ≤ length (now s)) × (k ≤ most-tags) ⌝ }
+    requires { ⌜ (2 ≤ length (now s)) × (k ≤ most-tags) × (length (now sets) ≡ 0 → ⊥) ⌝ }
     requires { ⌜ InRange lim ⌝ }
     ensures { λ r. ⌜ Reads (readCommands lim (now (s .entry)) k 0 (arrays (rows .entry) (lengths .entry) (heads .entry) (now (sets .entry))) 2) (arrays (rows .exit) (lengths .exit) (heads .exit) (now (sets .exit))) r ⌝ }
 {
@@ -174,9 +174,6 @@ fn read_commands(
             Next::Refused { number, byte } => {
                 return refused(number, byte);
             }
-            Next::Sets => {
-                return Reading::Sets;
-            }
             Next::To(to) => {
                 at = to;
             }
@@ -186,7 +183,47 @@ fn read_commands(
     refused(1, at)
 }
 
-// Reads a book into the caller's arrays: a pattern a row, its length, its head and its sets beside.
+// Reads a book into the caller's arrays, where there is no room for sets: a pattern a row, its length and its head beside.
+pub fn read_plain_into(
+    s: &[u8],
+    rows: &mut [[u8; PATTERN]; RULES],
+    lengths: &mut [usize; RULES],
+    heads: &mut [[u8; HEAD]; RULES],
+    sets: &[[u64; PATTERN]],
+    lim: Limits,
+) -> Reading
+    requires { ⌜ Shaped (arrays rows lengths heads (now sets)) × (length (now sets) ≡ 0) ⌝ }
+    requires { ⌜ InRange lim ⌝ }
+    ensures { λ r. ⌜ Whole lim (now (s .entry)) (arrays (rows .exit) (lengths .exit) (heads .exit) (now (sets .entry))) r ⌝ }
+{
+    let opened = open_book(s, lim);
+    let Reading::Book { tags, rules: _ } = opened else {
+        return opened;
+    };
+    read_plain(s, tags, rows, lengths, heads, sets, lim)
+}
+
+// The same where there is, with the sets beside.
+pub fn read_sets_into(
+    s: &[u8],
+    rows: &mut [[u8; PATTERN]; RULES],
+    lengths: &mut [usize; RULES],
+    heads: &mut [[u8; HEAD]; RULES],
+    sets: &mut [[u64; PATTERN]],
+    lim: Limits,
+) -> Reading
+    requires { ⌜ Shaped (arrays rows lengths heads (now sets)) × (length (now sets) ≡ 0 → ⊥) ⌝ }
+    requires { ⌜ InRange lim ⌝ }
+    ensures { λ r. ⌜ Whole lim (now (s .entry)) (arrays (rows .exit) (lengths .exit) (heads .exit) (now (sets .exit))) r ⌝ }
+{
+    let opened = open_book(s, lim);
+    let Reading::Book { tags, rules: _ } = opened else {
+        return opened;
+    };
+    read_commands(s, tags, rows, lengths, heads, sets, lim)
+}
+
+// The same with either.
 pub fn read_into(
     s: &[u8],
     rows: &mut [[u8; PATTERN]; RULES],
@@ -199,11 +236,10 @@ pub fn read_into(
     requires { ⌜ InRange lim ⌝ }
     ensures { λ r. ⌜ Whole lim (now (s .entry)) (arrays (rows .exit) (lengths .exit) (heads .exit) (now (sets .exit))) r ⌝ }
 {
-    let opened = open_book(s, lim);
-    let Reading::Book { tags, rules: _ } = opened else {
-        return opened;
-    };
-    read_commands(s, tags, rows, lengths, heads, sets, lim)
+    if sets.len() == 0 {
+        return read_plain_into(s, rows, lengths, heads, sets, lim);
+    }
+    read_sets_into(s, rows, lengths, heads, sets, lim)
 }
 
 // The rule i of the arrays.
@@ -260,7 +296,7 @@ fn read_with_sets(book: &[u8], lim: Limits) -> BookAnswer
     let mut lengths = [0usize; RULES];
     let mut heads = [[0u8; HEAD]; RULES];
     let mut sets = [[0u64; PATTERN]; RULES];
-    let got = read_into(
+    let got = read_sets_into(
         book,
         &mut rows,
         &mut lengths,
@@ -287,15 +323,8 @@ fn read_within(book: &[u8], lim: Limits) -> BookAnswer
     let mut rows = [[0u8; PATTERN]; RULES];
     let mut lengths = [0usize; RULES];
     let mut heads = [[0u8; HEAD]; RULES];
-    let mut none = [[0u64; PATTERN]; 0];
-    let got = read_into(
-        book,
-        &mut rows,
-        &mut lengths,
-        &mut heads,
-        &mut none[..],
-        lim,
-    );
+    let none = [[0u64; PATTERN]; 0];
+    let got = read_plain_into(book, &mut rows, &mut lengths, &mut heads, &none[..], lim);
     match got {
         Reading::Book { tags, rules } => BookAnswer::Book {
             tags,

@@ -3,7 +3,7 @@ use Prim.Native.Nat.{ℕ, zero, suc, _+_, _-_, _≤_, _<_}
 use native.Mathlib.Omega.{arith}
 use mathlib.Core.Path.{_≡_, sym, ap, _∙_}
 use mathlib.Core.Bool.{Bool, true, false, not, false≢true}
-use mathlib.Core.List.{List}
+use mathlib.Core.List.{List, []}
 use lib.ListN.{length, take, drop, getD, set, length-drop}
 use lib.Seq.{getD-drop, getD-take, drop-drop, drop-set-lt}
 use Rattle.words.specs.Word.{prefix}
@@ -11,9 +11,10 @@ use Rattle.words.specs.Parts.{Begun}
 use Rattle.words.proofs.Parts.{begun-once}
 use Rattle.cascades.specs.Pattern.{Class, fits, word, plain}
 use Rattle.cascades.specs.Rule.{once, Rule}
-use Rattle.cascades.specs.Value.{ruleWith, kindOf}
+use Rattle.cascades.specs.Value.{rule, ruleWith, ruleOf, kindOf, Formed}
+use Rattle.cascades.specs.declared.Rule.{Rule as Value}
 use Rattle.cascades.specs.Spares.{Changes}
-use Rattle.cascades.proofs.Pattern.{fits-plain, fits-length, fits-match}
+use Rattle.cascades.proofs.Pattern.{plain-pattern, fits-plain, fits-length, fits-match}
 use Rattle.cascades.proofs.Ending.{match-at}
 use Rattle.cascades.specs.Rewrite.{behind, apply}
 use Rattle.cascades.proofs.Rewrite.{begun-other, begun-short, begun-match}
@@ -110,3 +111,7 @@ module _ (u : List Class) (p t : ℕ) (s₀ x : List ℕ) (n : ℕ) where
 pub found-plain : (u s : List ℕ) (r : Occurrence) → Found (prefix u) s r → Found (fits (plain u)) s r
 found-plain u s (At i) f = record { here = fits-plain u (drop i s) ∙ f .here; least = λ j l. fits-plain u (drop j s) ∙ f .least j l }
 found-plain u s Nowhere f = λ i. fits-plain u (drop i s) ∙ f i
+
+-- a rule without a row of sets
+pub of-tags : (v : Value) → Formed v [] → ruleOf v [] ≡ rule (kindOf (v .everywhere)) (take (v .length) (v .row)) (v .place) (v .tag)
+of-tags v f = ap (λ (u : List Class). ruleWith (kindOf (v .everywhere)) u (v .place) (v .tag)) (sym (plain-pattern v [] (omega (arith, f .sets-long))))

@@ -23,7 +23,7 @@ ghost use Rattle.sentences.specs.Run.{run, Ran};
 ghost use Rattle.sentences.specs.Parts.{Wrote};
 ghost use Rattle.running.specs.Rules.{cascadeRun, cascadeNumbers};
 
-// The sentence to the front of `out`, and the first m rules of the arrays applied there: the number of changed tags.
+// The sentence to the front of `out`, and the first m rules of the arrays, which have no sets, applied there: the number of changed tags.
 fn write_rules(
     sentence: &[u8],
     out: &mut [u8],
@@ -33,14 +33,23 @@ fn write_rules(
     heads: &[[u8; HEAD]; RULES],
     sets: &[[u64; PATTERN]],
 ) -> usize
-    requires { ⌜ Usable m (arrays rows lengths heads (now sets)) ⌝ }
+    requires { ⌜ Usable m (arrays rows lengths heads (now sets)) × (length (now sets) ≡ 0) ⌝ }
     requires { ⌜ length (now sentence) ≤ length (now out) ⌝ }
     ensures { λ r. ⌜ Wrote (applyAll (rulesOf (arrays (rows .entry) (lengths .entry) (heads .entry) (now (sets .entry))) m) (now (sentence .entry))) (now (sentence .entry)) (now (out .entry)) (now (out .exit)) r ⌝ }
 {
     let mut none = [0u8; 0];
     let n = sentence.len();
     sentences::copy(sentence, out);
-    application::apply_rules(&mut out[..n], &mut none[..], rows, lengths, heads, sets, m);
+    application::apply_tags(
+        &mut out[..n],
+        &mut none[..],
+        rows,
+        lengths,
+        heads,
+        sets,
+        0,
+        m,
+    );
     sentences::count_changes(sentence, &out[..n])
 }
 
@@ -77,7 +86,7 @@ fn write_pieces(
     sentences::count_changes(sentence, &out[..n])
 }
 
-// Runs the first m rules of the arrays over the sentence: 13, 4 and 11.
+// Runs the first m rules of the arrays, which have no sets, over the sentence: 13, 4 and 11.
 pub fn run_rules(
     sentence: &[u8],
     out: &mut [u8],
@@ -88,7 +97,7 @@ pub fn run_rules(
     heads: &[[u8; HEAD]; RULES],
     sets: &[[u64; PATTERN]],
 ) -> RunAnswer
-    requires { ⌜ Usable m (arrays rows lengths heads (now sets)) ⌝ }
+    requires { ⌜ Usable m (arrays rows lengths heads (now sets)) × (length (now sets) ≡ 0) ⌝ }
     ensures { λ r. ⌜ Ran (run k (now (sentence .entry)) (length (now (out .entry))) (applyAll (rulesOf (arrays (rows .entry) (lengths .entry) (heads .entry) (now (sets .entry))) m) (now (sentence .entry)))) (now (sentence .entry)) (now (out .entry)) (now (out .exit)) r ⌝ }
 {
     let admission = sentences::admit(sentence, k, out.len());

@@ -30,6 +30,8 @@ use Rattle.books.proofs.Held.{was-refused, was-read, rules-held}
 use Rattle.running.specs.Rules.{running, numbers}
 use Rattle.running.proofs.Run.{numbers-kept}
 use Rattle.tagging.specs.Reading.{reading}
+use Rattle.tagger.specs.Tried.{Tried, ended}
+use Rattle.tagger.specs.declared.Trial.{Trial}
 use Rattle.endings.specs.Usable.{Usable}
 use Rattle.endings.proofs.Ending.{usable}
 
@@ -92,3 +94,21 @@ module _ {lim : Limits} (bytes : List ℕ) (a : Arrays) (r : Reading) (w : Whole
     book-runs-whole s room =
         let c = cascadeOf k a m in
         run-same k s room (applyAll (rulesOf a m) s) (behavior c s) (λ below. sym (without-end c few-tags s below)) ∙ book-runs behavior no-end s room k m f
+
+-- what a run that is done has done, and what a trial that has ended so has done
+pub tried-done : (t : Trial) (P : RunAnswer → Type 0) (nothing : Type 0) (a : RunAnswer) → t ≡ ended a → P a → Tried t P nothing
+tried-done t P nothing a e p = subst (λ (x : Trial). Tried x P nothing) (sym e) (by a p)
+  where
+    by : (a : RunAnswer) → P a → Tried (ended a) P nothing
+    by (RunAnswer.Changed n) p = p
+    by (RunAnswer.Refused r) p = p
+
+module _ (t : Trial) (P : RunAnswer → Type 0) (nothing : Type 0) (tried : Tried t P nothing) where
+  pub tried-changed : (n : ℕ) → t ≡ Trial.Changed n → P (RunAnswer.Changed n)
+  tried-changed n e = subst (λ (x : Trial). Tried x P nothing) e tried
+
+  pub tried-refused : (r : Refusal) → t ≡ Trial.Refused r → P (RunAnswer.Refused r)
+  tried-refused r e = subst (λ (x : Trial). Tried x P nothing) e tried
+
+  pub tried-sets : t ≡ Trial.Sets → nothing
+  tried-sets e = subst (λ (x : Trial). Tried x P nothing) e tried

@@ -8,10 +8,8 @@ use lib.ListN.{length, getD}
 use Rattle.limits.specs.Limits.{most-rules}
 use Rattle.books.specs.Arrays.{holding, Shaped}
 use Rattle.books.specs.Resume.{readCommands, ReadAs}
-use Rattle.books.specs.declared.Reading.{Reading}
 use Rattle.books.proofs.Reading.{the-type}
-use Rattle.books.proofs.Commands.{command-missing}
-use Rattle.books.proofs.Resume.{other-ends, rule-goes-on, pattern-refused, pattern-sets, pattern-goes-on}
+use Rattle.books.proofs.Resume.{other-ends, reading-missing, rule-goes-on, pattern-refused, pattern-goes-on}
 use Rattle.reader.proofs.read_commands.Statement.{statement}
 use Rattle.reader.proofs.read_commands.Tie as tie
 use Rattle.reader.proofs.read_commands.Reads as reads
@@ -52,7 +50,7 @@ read-rule-requires c κs =
     let st = c .before .before .before .before .before .before .before .before .before in
     let l = c .before .before .before .before .before .before .before .loop in
     let others = l .inv .2 (omega arith) in
-    (l .inv .3, ((l .inv .0, omega arith, search needs, others .0, others .1), st .pre .1 .1))
+    (l .inv .3, ((l .inv .0, omega arith, search needs, others .0, λ e some. absurd (some (others .1 e))), st .pre .1 .1))
 
 enum-known-got : tie.Need-enum-known-got Inv-loop μ-loop
 enum-known-got c = search needs
@@ -79,7 +77,7 @@ read-pattern-requires c κs =
     let r = c .before .before .before .before .before .before .before .read-rule in
     let book = c .before .before .before .before .before .got .given in
     let on = rule-goes-on s _ _ (st .args .k) (l .m) (l .at + 1 + 1 + 1) (l .at + 3) _ (r .result) (book .0 .0) (book .0 .1 .0) (r .ensures .0) (r .ensures .1) (book .1) (l .inv .4) (omega arith) in
-    (on .3, ((on .2, st .pre .1 .0 .1, on .1, on .4, on .5), st .pre .1 .1))
+    (on .3, ((on .2, st .pre .1 .0 .1, on .1, on .4, on .5, λ e. st .pre .1 .0 .2 (sym (l .inv .5) ∙ e)), st .pre .1 .1))
 
 enum-known-pattern : tie.Need-enum-known-pattern Inv-loop μ-loop
 enum-known-pattern c = search needs
@@ -101,23 +99,6 @@ returns-3 c =
     let got = c .before .before .before .before .before .read-pattern in
     let told = c .before .before .pattern .given in
     pattern-refused (st .args .lim) s (l .at + 3) (st .args .k) (l .m + 1) _ _ _ (got .result) (got .ensures) (on .6) (told .0 .0) (told .0 .1 .0) (c .refused .result) (told .1) (c .refused .ensures)
-
-enum-told : tie.Need-enum-told Inv-loop μ-loop
-enum-told c = search needs
-
-same-length-4 : tie.Need-same-length-4 Inv-loop μ-loop
-same-length-4 c = search needs
-
-returns-4 : tie.Need-returns-4 Inv-loop μ-loop
-returns-4 c =
-    let st = c .before .before .before .before .before .before .before .before .before .before .before .before .before .before .before .before .before .before .before .before .before in
-    let l = c .before .before .before .before .before .before .before .before .before .before .before .before .before .before .before .before .before .before .before .loop in
-    let s = st .args .s .now in
-    let r = c .before .before .before .before .before .before .before .before .before .before .before .read-rule in
-    let book = c .before .before .before .before .before .before .before .before .before .got .given in
-    let on = rule-goes-on s _ _ (st .args .k) (l .m) (l .at + 1 + 1 + 1) (l .at + 3) _ (r .result) (book .0 .0) (book .0 .1 .0) (r .ensures .0) (r .ensures .1) (book .1) (l .inv .4) (omega arith) in
-    let got = c .before .before .before .read-pattern in
-    pattern-sets (st .args .lim) s (l .at + 3) (st .args .k) (l .m + 1) _ _ _ (got .result) (got .ensures) (on .6) (c .enum-told .given .1)
 
 enum-known-pattern-2 : tie.Need-enum-known-pattern-2 Inv-loop μ-loop
 enum-known-pattern-2 c = search needs
@@ -150,21 +131,14 @@ loop-again c =
 refused-requires-2 : tie.Need-refused-requires-2 Inv-loop μ-loop
 refused-requires-2 c κs = search needs
 
-same-length-5 : tie.Need-same-length-5 Inv-loop μ-loop
-same-length-5 c = search needs
+same-length-4 : tie.Need-same-length-4 Inv-loop μ-loop
+same-length-4 c = search needs
 
-returns-5 : tie.Need-returns-5 Inv-loop μ-loop
-returns-5 c =
+returns-4 : tie.Need-returns-4 Inv-loop μ-loop
+returns-4 c =
     let st = c .before .before .before .before in
     let l = c .before .before .loop in
-    let s = st .args .s .now in
-    let a = holding (l .rows) (l .lengths) (l .heads) (l .sets) in
-    record {
-      outcome =
-          subst (λ (r : Reading). ReadAs r a (readCommands (st .args .lim) s (st .args .k) 0 (holding (st .args .rows .now) (st .args .lengths .now) (st .args .heads .now) (st .args .sets .now)) 2)) (sym (c .refused2 .ensures))
-          (sym (command-missing (st .args .lim) s (st .args .k) (l .m) a (l .at) (omega arith)) ∙ l .inv .4);
-      shaped = l .inv .3;
-    }
+    reading-missing (st .args .lim) (st .args .s .now) (st .args .k) (l .m) _ (l .at) (omega arith) (c .refused2 .result) (c .refused2 .ensures) (l .inv .3) _ (l .inv .4)
 
 pub read-commands-spec : {M : Type 1} → statement M
 read-commands-spec =
@@ -187,12 +161,9 @@ read-commands-spec =
     refused-requires
     same-length-3
     returns-3
-    enum-told
-    same-length-4
-    returns-4
     enum-known-pattern-2
     loop-less
     loop-again
     refused-requires-2
-    same-length-5
-    returns-5)
+    same-length-4
+    returns-4)

@@ -1,5 +1,5 @@
 -- `reader::read_within` meets its contract.
-use mathlib.Core.Path.{sym}
+use mathlib.Core.Path.{refl, sym}
 use mathlib.Core.Bool.{false}
 use borrow.Author.Needs.{needs}
 use Rattle.books.proofs.Arrays.{fresh-shaped, no-rows, plain-rules}
@@ -9,14 +9,14 @@ use Rattle.reader.proofs.read_within.Statement.{statement}
 use Rattle.reader.proofs.read_within.Tie as tie
 use Rattle.reader.proofs.read_within.Reads as reads
 use Rattle.reader.proofs.read_within.Lts as lts
-use Rattle.reader.proofs.read_into.Reads as read-into-reads
+use Rattle.reader.proofs.read_plain_into.Reads as read-plain-into-reads
 use Rattle.reader.proofs.read_with_sets.Reads as read-with-sets-reads
 
-slice-aggregate-read-into : tie.Need-slice-aggregate-read-into
-slice-aggregate-read-into c = search needs
+slice-aggregate-read-plain-into : tie.Need-slice-aggregate-read-plain-into
+slice-aggregate-read-plain-into c = search needs
 
-read-into-requires : tie.Need-read-into-requires
-read-into-requires c κs = (fresh-shaped _ no-rows, c .before .before .before .before .before .pre)
+read-plain-into-requires : tie.Need-read-plain-into-requires
+read-plain-into-requires c κs = ((fresh-shaped _ no-rows, refl), c .before .before .before .before .before .pre)
 
 enum-known-got : tie.Need-enum-known-got
 enum-known-got c = search needs
@@ -28,19 +28,19 @@ enum-told : tie.Need-enum-told
 enum-told c = search needs
 
 read-with-sets-requires : tie.Need-read-with-sets-requires
-read-with-sets-requires c κs = c .before .before .before .before .before .before .before .before .before .pre
+read-with-sets-requires c κs = c .before .before .before .before .before .before .before .before .pre
 
 returns : tie.Need-returns
 returns c =
-    let st = c .before .before .before .before .before .before .before .before .before .before in
-    let w = c .before .before .before .before .read-into in
+    let st = c .before .before .before .before .before .before .before .before .before in
+    let w = c .before .before .before .read-plain-into in
     let told = c .before .got .given in
-    sizes-book _ _ (told .0 .0) (told .0 .1 .0) false (was-read (st .args .book .now) _ (w .result) (w .ensures) (told .0 .0) (told .0 .1 .0) (told .1)) (sym (plain-rules _ (w .kept .1 .1 .1 .1 .0) (told .0 .1 .0)))
+    sizes-book _ _ (told .0 .0) (told .0 .1 .0) false (was-read (st .args .book .now) _ (w .result) (w .ensures) (told .0 .0) (told .0 .1 .0) (told .1)) (sym (plain-rules _ refl (told .0 .1 .0)))
 
 returns-2 : tie.Need-returns-2
 returns-2 c =
-    let st = c .before .before .before .before .before .before .before .before .before .before in
-    let w = c .before .before .before .before .read-into in
+    let st = c .before .before .before .before .before .before .before .before .before in
+    let w = c .before .before .before .read-plain-into in
     let told = c .before .got2 .given in
     sizes-refused _ (told .0 .0) (was-refused (st .args .book .now) _ (w .result) (w .ensures) (told .0 .0) (told .1))
 
@@ -51,8 +51,8 @@ pub read-within-spec : {M : Type 1} → statement M
 read-within-spec =
     tie.close
     (tie.spec
-    slice-aggregate-read-into
-    read-into-requires
+    slice-aggregate-read-plain-into
+    read-plain-into-requires
     enum-known-got
     enum-known-got-2
     enum-told

@@ -5,46 +5,46 @@ use Prim.Native.Nat.{ℕ, _+_, _-_, _≤_}
 use borrow.Author.Needs.{needs}
 use mathlib.Core.Path.{_≡_, refl, sym, ap, _∙_, subst}
 use mathlib.Core.Bool.{Bool}
-use mathlib.Core.List.{List, []}
-use lib.ListN.{length, take, drop, getD, set, length-set}
+use mathlib.Core.List.{List}
+use lib.ListN.{length, drop, set, length-set}
 use Rattle.words.specs.Parts.{Begun}
 use Rattle.words.proofs.Parts.{begun-start}
-use Rattle.cascades.specs.Pattern.{Class, fits}
+use Rattle.cascades.specs.Pattern.{Class, fits, plain}
 use Rattle.cascades.specs.Rule.{Rule}
-use Rattle.cascades.specs.Value.{ruleWith, kindOf, places}
-use Rattle.cascades.proofs.Pattern.{places-length}
+use Rattle.cascades.specs.Value.{rule, kindOf}
+use Rattle.cascades.proofs.Pattern.{plain-length}
 use Rattle.cascades.specs.Rewrite.{behind, apply}
 use Rattle.places.specs.declared.Occurrence.the-variants.{At}
 use Rattle.leftmost.specs.Leftmost.{Found}
 use Rattle.traces.specs.Note.{note}
 use Rattle.traces.proofs.Note.{note-same, note-long}
-use Rattle.rewriting.proofs.Rewriting.{Going, Noted, room-behind, match-behind, match-noted, none-behind, fired-once, fires-again}
+use Rattle.rewriting.proofs.Rewriting.{Going, Noted, room-behind, match-behind, match-noted, none-behind, found-plain, fired-once, fires-again}
 use Rattle.rewriting.proofs.rewrite.Statement.{statement}
 use Rattle.rewriting.proofs.rewrite.Tie as tie
 use Rattle.rewriting.proofs.rewrite.Reads as reads
 use Rattle.rewriting.proofs.rewrite.Lts as lts
-use Rattle.rewriting.proofs.seek.Reads as seek-reads
+use Rattle.leftmost.proofs.find.Reads as find-reads
 use Rattle.rewriting.proofs.put.Reads as put-reads
 
 -- the rule that is applied
-abbrev the-rule : List ℕ → List (List ℕ) → ℕ → ℕ → ℕ → ℕ → Bool → Rule
-the-rule u sets i n p tag everywhere = ruleWith (kindOf everywhere) (places u (take n (getD sets i []))) p tag
+abbrev the-rule : List ℕ → ℕ → ℕ → Bool → Rule
+the-rule u p tag everywhere = rule (kindOf everywhere) u p tag
 
 abbrev Inv-loop : tie.InvT-loop
-Inv-loop s₀ v₀ u sets i n p tag everywhere x size from₀ s v from = Going (the-rule u sets i n p tag everywhere) s₀ s from × Noted x s₀ v₀ s v from
+Inv-loop s₀ v₀ u p tag everywhere x size from₀ s v from = Going (the-rule u p tag everywhere) s₀ s from × Noted x s₀ v₀ s v from
 
 abbrev μ-loop : tie.MeasureT-loop
-μ-loop s₀ v₀ u sets i n p tag everywhere x size from₀ s v from = length s - from
+μ-loop s₀ v₀ u p tag everywhere x size from₀ s v from = length s - from
 
 module _ (st : tie.Start Inv-loop μ-loop) where
   abbrev pattern : List Class
-  pattern = places (st .args .u .now) (take (st .args .n) (getD (st .args .sets .now) (st .args .i) []))
+  pattern = plain (st .args .u .now)
 
   abbrev of-rule : Rule
-  of-rule = ruleWith (kindOf (st .args .everywhere)) pattern (st .args .p) (st .args .tag)
+  of-rule = rule (kindOf (st .args .everywhere)) (st .args .u .now) (st .args .p) (st .args .tag)
 
   long : length pattern ≡ length (st .args .u .now)
-  long = places-length (st .args .u .now) (take (st .args .n) (getD (st .args .sets .now) (st .args .i) []))
+  long = plain-length (st .args .u .now)
 
 -- the part's leftmost match, that it has room, and what the new tag and the number there leave to be done
 module _ (c : tie.After-known-told Inv-loop μ-loop) where
@@ -64,13 +64,13 @@ module _ (c : tie.After-known-told Inv-loop μ-loop) where
   at = c .before .found .given .0 .0
 
   found : Found (fits (pattern st)) (drop from s) (At at)
-  found = subst (Found (fits (pattern st)) _) (c .before .found .given .1) (c .before .before .before .seek .ensures)
+  found = subst (Found (fits (pattern st)) _) (c .before .found .given .1) (found-plain (st .args .u .now) (drop from s) (c .before .before .before .find .result) (c .before .before .before .find .ensures))
 
   going : Going (of-rule st) (st .args .s .now) s from
   going = c .before .before .before .before .before .loop .inv .0
 
   room : from + at + length (st .args .u .now) ≤ length s
-  room = omega (arith, room-behind (of-rule st) (st .pre .1) (st .args .s .now) s from going at found, long st)
+  room = omega (arith, room-behind (of-rule st) (st .pre) (st .args .s .now) s from going at found, long st)
 
   abbrev next : List ℕ
   next = set s (from + at + st .args .p) (st .args .tag)
@@ -79,11 +79,11 @@ module _ (c : tie.After-known-told Inv-loop μ-loop) where
   Matched = Begun (apply (of-rule st)) (behind (of-rule st .kind) (apply (of-rule st))) (st .args .s .now) next next (from + at + length (pattern st))
 
   matched : Matched
-  matched = match-behind (of-rule st) (st .pre .1) (st .args .s .now) s from going at found
+  matched = match-behind (of-rule st) (st .pre) (st .args .s .now) s from going at found
 
   noted : Noted (st .args .x) (st .args .s .now) (st .args .v .now) next (set v (from + at + st .args .p) (st .args .x)) (from + at + length (pattern st))
   noted =
-      match-noted (of-rule st) (st .pre .1) (st .args .s .now) s from going at found (st .args .x) (st .args .v .now) v
+      match-noted (of-rule st) (st .pre) (st .args .s .now) s from going at found (st .args .x) (st .args .v .now) v
       (c .before .before .before .before .before .loop .inv .1)
 
 -- behind the number that was put
@@ -99,10 +99,10 @@ loop-holds c =
     let a = c .before .before .before .args in
     (begun-start (apply (of-rule (c .before .before .before))) (a .s .now) (a .s .now) refl, record { numbers = sym (note-same (a .x) (a .s .now) (a .v .now)); rest = refl })
 
-seek-requires : tie.Need-seek-requires Inv-loop μ-loop
-seek-requires c κs =
+find-requires : tie.Need-find-requires Inv-loop μ-loop
+find-requires c κs =
     let start = c .before .before .before .before .before in
-    (omega (arith, start .pre .1 .inside, long start), c .before .loop .inv .0 .inside, start .pre .0)
+    (omega (arith, start .pre .inside, long start), c .before .loop .inv .0 .inside)
 
 enum-known-found : tie.Need-enum-known-found Inv-loop μ-loop
 enum-known-found c = search needs
@@ -123,8 +123,8 @@ returns : tie.Need-returns Inv-loop μ-loop
 returns c =
     let start = c .before .before .before .before .before .before .before .before in
     let l = c .before .before .before .before .loop in (
-      none-behind (of-rule start) (start .pre .1) (start .args .s .now) (l .s) (l .from) (l .inv .0)
-          (subst (Found (fits (pattern start)) _) (c .enum-told .given .1) (c .before .before .seek .ensures)),
+      none-behind (of-rule start) (start .pre) (start .args .s .now) (l .s) (l .from) (l .inv .0)
+          (subst (Found (fits (pattern start)) _) (c .enum-told .given .1) (found-plain (start .args .u .now) (drop (l .from) (l .s)) (c .before .before .find .result) (c .before .before .find .ensures))),
       l .inv .1 .numbers,
     )
 
@@ -132,10 +132,10 @@ add-at : tie.Need-add-at Inv-loop μ-loop
 add-at c = omega (arith, room c, long (st c))
 
 add-at-2 : tie.Need-add-at-2 Inv-loop μ-loop
-add-at-2 c = omega (arith, room c, st c .pre .1 .inside, long (st c))
+add-at-2 c = omega (arith, room c, st c .pre .inside, long (st c))
 
 slice-write-s : tie.Need-slice-write-s Inv-loop μ-loop
-slice-write-s c = omega (arith, room c, st c .pre .1 .inside, long (st c))
+slice-write-s c = omega (arith, room c, st c .pre .inside, long (st c))
 
 put-requires : tie.Need-put-requires Inv-loop μ-loop
 put-requires c κs = tt
@@ -165,7 +165,7 @@ add-from-2 c = omega (arith, room (match (c .before .before .before)))
 loop-less : tie.Need-loop-less Inv-loop μ-loop
 loop-less c =
     let m = match (c .before .before .before) in
-    omega (arith, room m, st m .pre .1 .inside, long (st m), matched m .long)
+    omega (arith, room m, st m .pre .inside, long (st m), matched m .long)
 
 loop-again : tie.Need-loop-again Inv-loop μ-loop
 loop-again c =
@@ -185,7 +185,7 @@ rewrite-spec =
     Inv-loop
     μ-loop
     loop-holds
-    seek-requires
+    find-requires
     enum-known-found
     enum-told
     same-length

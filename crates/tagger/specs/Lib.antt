@@ -1,0 +1,2 @@
+-- A run of a book that may have to be tried again.
+pub mod Tried
