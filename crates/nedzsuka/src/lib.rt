@@ -94,7 +94,7 @@ pub extern "C" fn nedzsuka_starter_table(out: &mut [u8]) -> u64
     pack_compile(answer)
 }
 
-// tagger::run_book_ending: the number of changed tags, or the refusal.
+// tagger::run_book_standard: the number of changed tags, or the refusal.
 #[no_mangle]
 pub extern "C" fn nedzsuka_run_book_ending(
     book: &[u8],
@@ -105,7 +105,7 @@ pub extern "C" fn nedzsuka_run_book_ending(
     ensures answer { λ r. ⌜ r ≡ packed (changed (now (sentence .entry)) (bookRun standard (now (book .entry)) end (now (sentence .entry)) (length (now (out .entry))))) ⌝ }
     ensures out { λ r. ⌜ now (out .exit) ≡ written (bookRun standard (now (book .entry)) end (now (sentence .entry)) (length (now (out .entry)))) (now (out .entry)) ⌝ }
 {
-    let answer = tagger::run_book_ending(book, end, sentence, out);
+    let answer = tagger::run_book_standard(book, end, sentence, out);
     pack_run(answer)
 }
 
@@ -136,7 +136,7 @@ pub extern "C" fn nedzsuka_run_book(book: &[u8], sentence: &[u8], out: &mut [u8]
     pack_run(answer)
 }
 
-// tagger::run_book_within: the same with a host's limits.
+// tagger::run_book_ending: the same with a host's limits.
 #[no_mangle]
 pub extern "C" fn nedzsuka_run_book_within(
     pattern: u64,
@@ -151,7 +151,7 @@ pub extern "C" fn nedzsuka_run_book_within(
     ensures out { λ r. ⌜ now (out .exit) ≡ written (bookRun (limitsOf pattern rules tags) (now (book .entry)) end (now (sentence .entry)) (length (now (out .entry)))) (now (out .entry)) ⌝ }
 {
     let lim = limits_of(pattern, rules, tags);
-    let answer = tagger::run_book_within(book, end, sentence, out, lim);
+    let answer = tagger::run_book_ending(book, end, sentence, out, lim);
     pack_run(answer)
 }
 

@@ -134,32 +134,8 @@ pub fn run_book_rules(
     RunAnswer::Refused(Refusal::Bare { number: 17 })
 }
 
-// The same without the numbers, with the limits of document 01.
-pub fn run_book_ending(book: &[u8], end: u8, sentence: &[u8], out: &mut [u8]) -> RunAnswer
-    ensures { λ r. ⌜ Ran (bookRun standard (now (book .entry)) end (now (sentence .entry)) (length (now (out .entry)))) (now (sentence .entry)) (now (out .entry)) (now (out .exit)) r ⌝ }
-{
-    let mut v = [0u8; 0];
-    let room = out.len();
-    let mut none = [[0u64; PATTERN]; 0];
-    let got = run_within(
-        book,
-        end,
-        sentence,
-        out,
-        &mut v[..],
-        room,
-        &mut none[..],
-        STANDARD,
-    );
-    match got {
-        Trial::Changed(changes) => RunAnswer::Changed(changes),
-        Trial::Refused(refusal) => RunAnswer::Refused(refusal),
-        Trial::Sets => run_again(book, end, sentence, out, &mut v[..], room, STANDARD),
-    }
-}
-
-// The same with a host's limits.
-pub fn run_book_within(
+// The same without the numbers.
+pub fn run_book_ending(
     book: &[u8],
     end: u8,
     sentence: &[u8],
@@ -189,6 +165,30 @@ pub fn run_book_within(
         };
     }
     RunAnswer::Refused(Refusal::Bare { number: 17 })
+}
+
+// The same with the limits of document 01, which are in their ranges.
+pub fn run_book_standard(book: &[u8], end: u8, sentence: &[u8], out: &mut [u8]) -> RunAnswer
+    ensures { λ r. ⌜ Ran (bookRun standard (now (book .entry)) end (now (sentence .entry)) (length (now (out .entry)))) (now (sentence .entry)) (now (out .entry)) (now (out .exit)) r ⌝ }
+{
+    let mut v = [0u8; 0];
+    let room = out.len();
+    let mut none = [[0u64; PATTERN]; 0];
+    let got = run_within(
+        book,
+        end,
+        sentence,
+        out,
+        &mut v[..],
+        room,
+        &mut none[..],
+        STANDARD,
+    );
+    match got {
+        Trial::Changed(changes) => RunAnswer::Changed(changes),
+        Trial::Refused(refusal) => RunAnswer::Refused(refusal),
+        Trial::Sets => run_again(book, end, sentence, out, &mut v[..], room, STANDARD),
+    }
 }
 
 // Runs a book with sets over a sentence without an end tag, with limits in their ranges.
