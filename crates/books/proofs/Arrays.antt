@@ -287,11 +287,6 @@ module _ (a : Arrays) (h : Shaped a) (i : ℕ) (few : i < most-rules) (row : Lis
   row-shaped =
       subst (λ (x : List (List ℕ)). Shaped (holding (set (a .rows) i row) (a .lengths) (a .heads) x)) (set-same (a .sets) i []) (rows-shaped (getD (a .sets) i []) (h .set-long i))
 
-  pub row-down : getD (a .lengths) i 0 ≡ 0 → rulesDown (holding (set (a .rows) i row) (a .lengths) (a .heads) (a .sets)) (suc i) ≡ rulesDown a (suc i)
-  row-down e =
-      untagged-down (holding (set (a .rows) i row) (a .lengths) (a .heads) (a .sets)) i e
-      ∙ cc (untagged-down a i e, down-same a (holding (set (a .rows) i row) (a .lengths) (a .heads) (a .sets)) i (λ j l. cc (getD-set-other (a .rows) i j row [] (λ f. omega arith))))
-
   tagged-put : (n : ℕ) → put a i row n head (getD (a .sets) i []) ≡ tagged-arrays a i row n
   tagged-put n = cc (set-same (a .heads) i [], set-same (a .sets) i [])
 

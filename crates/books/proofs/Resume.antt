@@ -27,7 +27,7 @@ use Rattle.books.specs.declared.Tags.{Tags}
 use Rattle.books.specs.declared.Place.{Place}
 use Rattle.books.specs.declared.Places.{Places}
 use Rattle.books.specs.declared.Next.{Next}
-use Rattle.books.proofs.Arrays.{down-length, tagged-arrays, placed-arrays, row-shaped, rows-shaped, row-down, tagged-shaped, tagged-down, placed-shaped, placed-down, untagged-down}
+use Rattle.books.proofs.Arrays.{down-length, tagged-arrays, placed-arrays, row-shaped, rows-shaped, tagged-shaped, tagged-down, placed-shaped, placed-down, untagged-down}
 use Rattle.books.proofs.SoFar.{SoFar, so-far-placed, so-far-cut}
 use Rattle.books.proofs.Commands.{command-missing}
 

@@ -80,7 +80,7 @@ longer r c = record { kind = r .kind; pattern = r .pattern ++ (c ∷ []); place 
 abbrev pub setRead : ℕ → ℕ → Stage → Outcome Stage
 setRead k s next = provided 4 (ltb s (2 ^ k)) (provided 18 (leb 2 (ones k s)) (result next))
 
--- one more byte of a set: a number that is none is not read
+-- one more byte of a set, with which its bytes make the number s
 abbrev pub setByte : ℕ → Rule → List Rule → ℕ → ℕ → Outcome Stage
 setByte k r rs zero s = setRead k s (command k (longer r (any s) ∷ rs))
 setByte k r rs (suc n) s = result (set-byte k r rs n s)

@@ -2,7 +2,6 @@
 use Prim.Native.Nat.{ℕ, zero, suc, _/_, _^_, _≤_, _<_}
 use native.Mathlib.Omega.{arith}
 use native.Mathlib.Nat.{lt-of-lt-of-le, div-eq-of-lt}
-use native.Mathlib.Decide.{decLt}
 use mathlib.Core.Path.{_≡_, refl, sym, ap, _∙_, subst}
 use mathlib.Core.Bool.{Bool, true, false, false≢true}
 use mathlib.Core.List.{List, [], _∷_, _++_}
@@ -195,14 +194,6 @@ last-inside (c ∷ u) = by (someSet (c ∷ u)) refl (last-inside u)
     by : (t : Bool) → someSet (c ∷ u) ≡ t → lastSet u ≤ length u → lastSet (c ∷ u) ≤ suc (length u)
     by true e h = omega (arith, last-cons c u true e)
     by false e h = omega (arith, last-cons c u false e)
-
--- no set from a place on where there is none from an earlier one on
-pub none-later : (u : List Class) (i p : ℕ) → i ≤ p → someSet (drop i u) ≡ false → someSet (drop p u) ≡ false
-none-later u i p h e = none-from u p (by (decLt i (lastSet u)))
-  where
-    by : Dec (i < lastSet u) → lastSet u ≤ p
-    by (yes l) = absurd (false≢true (sym e ∙ some-from u i l))
-    by (no l) = omega arith
 
 -- the pattern of a rule without sets
 pub plain-pattern : (v : Value) (ss : List ℕ) → v .sets ≡ 0 → plain (take (v .length) (v .row)) ≡ ruleOf v ss .pattern

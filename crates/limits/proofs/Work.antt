@@ -1,7 +1,7 @@
 -- The parts of the work slice have room for what they hold, and the slice is not too long for numbers.
-use Prim.Native.Nat.{ℕ, zero, suc, _+_, _-_, _*_, _%_, _^_, _≤_, _<_}
+use Prim.Native.Nat.{ℕ, _+_, _-_, _*_, _%_, _^_, _≤_, _<_}
 use native.Mathlib.Omega.{arith}
-use native.Mathlib.Nat.{mul-le-mul-left, pow-suc, mod-eq-of-lt}
+use native.Mathlib.Nat.{mul-le-mul-left, mod-eq-of-lt}
 use mathlib.Core.Path.{_≡_, refl, ap, _∙_}
 use mathlib.Core.Bool.{Bool, true, false}
 use lib.Pow.{pow-mono}
@@ -20,15 +20,7 @@ rule-fits s ceiling some = omega (arith, mul-le-mul-left s some)
 pub deep-enough : (h i m : ℕ) → i < m → h * i + h + 8 ≤ work-depth h m
 deep-enough h i m less = let more : i + 1 ≤ m = omega arith in omega (arith, mul-le-mul-left h more)
 
--- the states of a rule's transducer are no more than those of one with sets, at most 129
-pow-more : (n : ℕ) → n + 1 ≤ 2 ^ n
-pow-more zero = omega arith
-pow-more (suc n) = omega (arith, pow-more n, pow-suc 2 n)
-
-pub plain-states : (lim : Limits) (sets : Bool) → 1 ≤ lim .pattern → lim .pattern + 1 ≤ rule-states lim sets
-plain-states lim true some = omega (arith, pow-more (lim .pattern - 1))
-plain-states lim false some = omega arith
-
+-- the states of a rule's transducer are at most 129
 pub states-most : (lim : Limits) (sets : Bool) → InRange lim → rule-states lim sets ≤ 129
 states-most lim true ranged = let short : lim .pattern - 1 ≤ 7 = omega (arith, ranged .short-pattern) in omega (arith, pow-mono short)
 states-most lim false ranged = omega (arith, ranged .short-pattern)

@@ -42,7 +42,7 @@ const EVERYWHERE: u8 = 0x24;
 // The command that puts a set into a pattern.
 const SET: u8 = 0x23;
 
-// The command at `at`, which is not 00, and 22 only where no rule is open. It says so where 23 goes on with a rule, for which there is no room.
+// The command at `at`, which is not 00, and 22 only where no rule is open. Where 23 goes on with a rule, the answer is `Sets`: there is no room for it.
 fn read_rule(
     s: &[u8],
     at: usize,

@@ -109,7 +109,3 @@ prefix-take z u e = sym (ap (take (length z)) (prefix-split z u e) ∙ take-appe
 
 pub prefix-length : (u w : List ℕ) → prefix u w ≡ true → length u ≤ length w
 prefix-length u w h = omega (arith, simp length-append at (ap length (prefix-split u w h)))
-
--- where the test fails, the word does not begin so
-pub prefix-other : (u w y : List ℕ) → prefix u w ≡ false → w ≡ u ++ y → ⊥
-prefix-other u w y h e = false≢true (sym h ∙ ap (prefix u) e ∙ prefix-append u y)
