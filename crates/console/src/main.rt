@@ -1,4 +1,6 @@
 // Answers lines of standard input by calls of the libraries; docs/console.md has the lines and what each is answered.
+#![tactic(auto)]
+
 mod text;
 
 ghost use Rattle.std.specs.Prelude.{◌≡◌, ◌≤◌, length};
@@ -6,59 +8,61 @@ ghost use Rattle.console.specs.Operand.{Within};
 
 use answers::{Refusal, RunAnswer};
 use books::BookAnswer;
-use libc::STDIN_FILENO;
 use limits::STANDARD;
 use printing::{put, put_byte, put_number};
+use std::io;
+use std::io::{Print, Read};
 use text::{Call, Fault, Operand, Word};
 
-fn put_bytes(bytes: &[u8]) {
+fn put_bytes<P: Print>(to: &P, bytes: &[u8]) -> io::Result<()> {
     let mut i = 0;
     while i < bytes.len() {
-        put(b" ");
-        put_byte(bytes[i]);
+        put(to, b" ")?;
+        put_byte(to, bytes[i])?;
         i += 1;
     }
+    Ok(())
 }
 
-fn put_refused(refusal: Refusal) {
-    put(b" ");
-    printing::put_refusal(refusal);
+fn put_refused<P: Print>(to: &P, refusal: Refusal) -> io::Result<()> {
+    put(to, b" ")?;
+    printing::put_refusal(to, refusal)
 }
 
-fn put_run(answer: RunAnswer) {
+fn put_run<P: Print>(to: &P, answer: RunAnswer) -> io::Result<()> {
     match answer {
         RunAnswer::Changed(n) => {
-            put(b" changed ");
-            put_number(n);
+            put(to, b" changed ")?;
+            put_number(to, n)
         }
-        RunAnswer::Refused(refusal) => put_refused(refusal),
+        RunAnswer::Refused(refusal) => put_refused(to, refusal),
     }
 }
 
-fn put_fault(fault: Fault) {
+fn put_fault<P: Print>(to: &P, fault: Fault) -> io::Result<()> {
     match fault {
-        Fault::Word => put(b" unknown word"),
-        Fault::Colon => put(b" no colon"),
-        Fault::Hexadecimal => put(b" bad hexadecimal"),
-        Fault::Number => put(b" bad number"),
-        Fault::Empty => put(b" empty sentence"),
-        Fault::Long => put(b" too long"),
+        Fault::Word => put(to, b" unknown word"),
+        Fault::Colon => put(to, b" no colon"),
+        Fault::Hexadecimal => put(to, b" bad hexadecimal"),
+        Fault::Number => put(to, b" bad number"),
+        Fault::Empty => put(to, b" empty sentence"),
+        Fault::Long => put(to, b" too long"),
     }
 }
 
-fn put_book(answer: BookAnswer) {
+fn put_book<P: Print>(to: &P, answer: BookAnswer) -> io::Result<()> {
     match answer {
         BookAnswer::Book {
             tags,
             rules,
             sets: _,
         } => {
-            put(b" tags ");
-            put_number(tags as usize);
-            put(b" rules ");
-            put_number(rules);
+            put(to, b" tags ")?;
+            put_number(to, tags as usize)?;
+            put(to, b" rules ")?;
+            put_number(to, rules)
         }
-        BookAnswer::Refused(refusal) => put_refused(refusal),
+        BookAnswer::Refused(refusal) => put_refused(to, refusal),
     }
 }
 
@@ -75,72 +79,73 @@ fn zeros() -> [u8; 70000]
     [0; 70000]
 }
 
-fn run_into(book: &[u8], sentence: &[u8], out: &mut [u8]) {
-    put_run(tagger::run_book(book, sentence, out, STANDARD));
-    put(b" :");
-    put_bytes(out);
+fn run_into<P: Print>(to: &P, book: &[u8], sentence: &[u8], out: &mut [u8]) -> io::Result<()> {
+    put_run(to, tagger::run_book(book, sentence, out, STANDARD))?;
+    put(to, b" :")?;
+    put_bytes(to, out)
 }
 
-fn answer_run(book: &[u8], sentence: &[u8], room: usize)
+fn answer_run<P: Print>(to: &P, book: &[u8], sentence: &[u8], room: usize) -> io::Result<()>
     requires { room ≤ 70002 }
 {
     let mut out = filled();
-    run_into(book, sentence, &mut out[..room]);
+    run_into(to, book, sentence, &mut out[..room])
 }
 
 // Into a slice one byte too short.
-fn answer_short(book: &[u8], sentence: &[u8])
+fn answer_short<P: Print>(to: &P, book: &[u8], sentence: &[u8]) -> io::Result<()>
     requires { length sentence.now ≤ 70000 }
 {
     let n = sentence.len();
     if n == 0 {
-        put_fault(Fault::Empty);
+        put_fault(to, Fault::Empty)
     } else {
-        answer_run(book, sentence, n - 1);
+        answer_run(to, book, sentence, n - 1)
     }
 }
 
-fn answer_long(book: &[u8], sentence: &[u8]) {
+fn answer_long<P: Print>(to: &P, book: &[u8], sentence: &[u8]) -> io::Result<()> {
     let mut out = filled();
-    put_run(tagger::run_book(book, sentence, &mut out, STANDARD));
+    put_run(to, tagger::run_book(book, sentence, &mut out, STANDARD))
 }
 
-fn answer_sheet<'a>(sentence: &'a [u8], res: &'a [u8]) {
-    put_bytes(spans::changed_span(sentence, res));
+fn answer_sheet<'a, P: Print>(to: &P, sentence: &'a [u8], res: &'a [u8]) -> io::Result<()> {
+    put_bytes(to, spans::changed_span(sentence, res))
 }
 
 // The borders of all prefixes but the empty one.
-fn put_borders(borders: &[usize]) {
+fn put_borders<P: Print>(to: &P, borders: &[usize]) -> io::Result<()> {
     let mut j = 1;
     while j < borders.len() {
-        put(b" ");
-        put_number(borders[j]);
+        put(to, b" ")?;
+        put_number(to, borders[j])?;
         j += 1;
     }
+    Ok(())
 }
 
-fn answer_borders(pattern: &[u8])
+fn answer_borders<P: Print>(to: &P, pattern: &[u8]) -> io::Result<()>
     requires { length pattern.now ≤ 4096 }
 {
     let mut borders = [0; 4097];
     let count = borders::find_borders(pattern, &mut borders);
-    put(b" compared ");
-    put_number(count);
-    put(b" :");
-    put_borders(&borders[..pattern.len() + 1]);
+    put(to, b" compared ")?;
+    put_number(to, count)?;
+    put(to, b" :")?;
+    put_borders(to, &borders[..pattern.len() + 1])
 }
 
 // Of `book` and `borders` the second operand is empty.
-fn answer<'a>(call: Call, a: &'a [u8], b: &'a [u8])
+fn answer<'a, P: Print>(to: &P, call: Call, a: &'a [u8], b: &'a [u8]) -> io::Result<()>
     requires { (length a.now ≤ 4096) × (length b.now ≤ 70000) }
 {
     match call {
-        Call::Book => put_book(reader::read_book(a, STANDARD)),
-        Call::Run => answer_run(a, b, b.len() + 2),
-        Call::Short => answer_short(a, b),
-        Call::Long => answer_long(a, b),
-        Call::Proof => answer_sheet(a, b),
-        Call::Borders => answer_borders(a),
+        Call::Book => put_book(to, reader::read_book(a, STANDARD)),
+        Call::Run => answer_run(to, a, b, b.len() + 2),
+        Call::Short => answer_short(to, a, b),
+        Call::Long => answer_long(to, a, b),
+        Call::Proof => answer_sheet(to, a, b),
+        Call::Borders => answer_borders(to, a),
     }
 }
 
@@ -155,77 +160,80 @@ fn read_second(call: Call, text: &[u8], out: &mut [u8]) -> Operand
     }
 }
 
-fn answer_operands(call: Call, left: &[u8], right: &[u8]) {
-    let mut a = io::buffer();
+fn answer_operands<P: Print>(to: &P, call: Call, left: &[u8], right: &[u8]) -> io::Result<()> {
+    let mut a = [0u8; 4096];
     let mut b = zeros();
     match text::hex_bytes(left, &mut a) {
-        Operand::Wrong(fault) => put_fault(fault),
+        Operand::Wrong(fault) => put_fault(to, fault),
         Operand::Bytes(m) => match read_second(call, right, &mut b) {
-            Operand::Wrong(fault) => put_fault(fault),
-            Operand::Bytes(n) => answer(call, &a[..m], &b[..n]),
+            Operand::Wrong(fault) => put_fault(to, fault),
+            Operand::Bytes(n) => answer(to, call, &a[..m], &b[..n]),
         },
     }
 }
 
 // The operands before and after the colon.
-fn answer_parts(call: Call, rest: &[u8]) {
+fn answer_parts<P: Print>(to: &P, call: Call, rest: &[u8]) -> io::Result<()> {
     let colon = text::find(rest, b':', 0);
     if colon < rest.len() {
-        answer_operands(call, &rest[..colon], &rest[colon + 1..]);
+        answer_operands(to, call, &rest[..colon], &rest[colon + 1..])
     } else {
-        put_fault(Fault::Colon);
+        put_fault(to, Fault::Colon)
     }
 }
 
-fn answer_call(call: Call, rest: &[u8]) {
+fn answer_call<P: Print>(to: &P, call: Call, rest: &[u8]) -> io::Result<()> {
     match call {
-        Call::Book | Call::Borders => answer_operands(call, rest, b""),
-        _ => answer_parts(call, rest),
+        Call::Book | Call::Borders => answer_operands(to, call, rest, b""),
+        _ => answer_parts(to, call, rest),
     }
 }
 
-fn answer_word(word: Word, rest: &[u8]) {
+fn answer_word<P: Print>(to: &P, word: Word, rest: &[u8]) -> io::Result<()> {
     match word {
-        Word::Known(call) => answer_call(call, rest),
-        Word::Unknown => put_fault(Fault::Word),
+        Word::Known(call) => answer_call(to, call, rest),
+        Word::Unknown => put_fault(to, Fault::Word),
     }
 }
 
-fn answer_line(line: &[u8]) {
-    put(line);
+fn answer_line<P: Print>(to: &P, line: &[u8]) -> io::Result<()> {
+    put(to, line)?;
     if 0 < line.len() && line[0] != b'#' {
-        put(b" ->");
+        put(to, b" ->")?;
         let space = text::find(line, b' ', 0);
-        answer_word(text::read_word(&line[..space]), &line[space..]);
+        answer_word(to, text::read_word(&line[..space]), &line[space..])?;
     }
-    put(b"\n");
+    put(to, b"\n")
 }
 
 // The lines of the input; of an input that is cut, those whose ends were read.
-fn answer_lines(input: &[u8], cut: bool) {
+fn answer_lines<P: Print>(to: &P, input: &[u8], cut: bool) -> io::Result<()> {
     let mut start = 0;
     while start < input.len() {
         let end = text::find(input, b'\n', start);
         if cut && end == input.len() {
-            return;
+            return Ok(());
         }
-        answer_line(&input[start..end]);
+        answer_line(to, &input[start..end])?;
         start = end + 1;
     }
+    Ok(())
 }
 
 // Whether there is input left.
-fn goes_on() -> bool {
+fn goes_on<R: Read>(from: &mut R) -> io::Result<bool> {
     let mut next = [0u8; 1];
-    0 < io::read_full(STDIN_FILENO, &mut next)
+    Ok(0 < printing::read_full(from, &mut next)?)
 }
 
-fn main() {
-    let mut input = io::large_buffer();
-    let n = io::read_full(STDIN_FILENO, &mut input);
-    let cut = n == input.len() && goes_on();
-    answer_lines(&input[..n], cut);
+fn main(rt: HostRuntime) -> io::Result<()> {
+    let mut from = rt.reader();
+    let mut input = [0u8; 65536];
+    let n = printing::read_full(&mut from, &mut input)?;
+    let cut = n == input.len() && goes_on(&mut from)?;
+    answer_lines(&rt, &input[..n], cut)?;
     if cut {
-        put(b"input cut\n");
+        put(&rt, b"input cut\n")?;
     }
+    Ok(())
 }

@@ -6,7 +6,7 @@ ghost use Rattle.console.specs.Operand.{Within};
 use words::wide;
 
 // What is wrong with a line.
-#[derive(Drop)]
+#[derive(Clone, Copy)]
 pub enum Fault {
     Word,
     Colon,
@@ -17,13 +17,13 @@ pub enum Fault {
 }
 
 // What a line asks for, by its first word.
-#[derive(Drop)]
+#[derive(Clone, Copy)]
 pub enum Word {
     Known(Call),
     Unknown,
 }
 
-#[derive(Drop)]
+#[derive(Clone, Copy)]
 pub enum Call {
     Book,
     Run,
@@ -34,7 +34,7 @@ pub enum Call {
 }
 
 // What an operand reads as: so many bytes, or what is wrong with it.
-#[derive(Drop)]
+#[derive(Clone, Copy)]
 pub enum Operand {
     Bytes(usize),
     Wrong(Fault),
@@ -104,7 +104,7 @@ fn digit(byte: u8) -> u8
 }
 
 // The byte that a pair of digits gives.
-#[derive(Drop)]
+#[derive(Clone, Copy)]
 enum Pair {
     Byte(u8),
     Nothing,

@@ -1,34 +1,54 @@
-// What programs write to standard output.
-use answers::Refusal;
-use libc::STDOUT_FILENO;
+// What programs write to standard output, and how they read standard input.
+#![tactic(auto)]
 
-pub fn put(bytes: &[u8]) {
-    io::write_all(STDOUT_FILENO, bytes);
+ghost use Rattle.std.specs.Prelude.{◌≤◌, length, IfOk};
+
+use answers::Refusal;
+use std::io;
+use std::io::{Print, Read};
+
+pub fn put<P: Print>(to: &P, bytes: &[u8]) -> io::Result<()> {
+    to.write_all(bytes)
 }
 
-pub fn put_number(n: usize) {
-    io::print_decimal(STDOUT_FILENO, n as u64);
+pub fn put_number<P: Print>(to: &P, n: usize) -> io::Result<()> {
+    print!(to; "{n}")
 }
 
 // Two hexadecimal digits.
-pub fn put_byte(byte: u8) {
-    io::print_hex(STDOUT_FILENO, byte as u64, 2);
+pub fn put_byte<P: Print>(to: &P, byte: u8) -> io::Result<()> {
+    print!(to; "{byte:02x}")
 }
 
 // The number, with the byte or the rule that the refusal names.
-pub fn put_refusal(refusal: Refusal) {
-    put(b"refused ");
+pub fn put_refusal<P: Print>(to: &P, refusal: Refusal) -> io::Result<()> {
+    put(to, b"refused ")?;
     match refusal {
         Refusal::AtByte { number, byte } => {
-            put_number(number as usize);
-            put(b" at byte ");
-            put_number(byte);
+            put_number(to, number as usize)?;
+            put(to, b" at byte ")?;
+            put_number(to, byte)
         }
         Refusal::AtRule { number, rule } => {
-            put_number(number as usize);
-            put(b" at rule ");
-            put_number(rule);
+            put_number(to, number as usize)?;
+            put(to, b" at rule ")?;
+            put_number(to, rule)
         }
-        Refusal::Bare { number } => put_number(number as usize),
+        Refusal::Bare { number } => put_number(to, number as usize),
     }
+}
+
+// Reads until the buffer is full or the input ends: how many bytes stand at the front of the buffer.
+pub fn read_full<R: Read>(from: &mut R, buf: &mut [u8]) -> io::Result<usize>
+    ensures { IfOk result (λ n. n ≤ length buf.new) }
+{
+    let mut done = 0;
+    while done < buf.len() {
+        let n = from.read(&mut buf[done..])?;
+        if n == 0 {
+            break;
+        }
+        done += n;
+    }
+    Ok(done)
 }
