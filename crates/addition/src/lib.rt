@@ -1,4 +1,6 @@
 // One more rule: the phases, one after the other.
+#![tactic(auto)]
+
 ghost use Rattle.std.specs.Prelude.{◌≤◌, [], get_or};
 ghost use Rattle.limits.specs.Limits.{most_tags};
 ghost use Rattle.cascades.specs.Value.{rule_of, Formed};

@@ -1,1 +1,2 @@
 // Whether two transducers do the same: definitions and laws.
+#![tactic(auto)]

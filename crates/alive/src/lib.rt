@@ -2,6 +2,8 @@
 // transducer as numbers, and where a step leads from each.
 // Time O(1) for a step, after O(k l) for the masks of k tags and a pattern of l places; space is a mask for each tag.
 // Baeza-Yates and Gonnet's shift-and, for 002, definition 2: a state of the string matching automaton is a set of matched lengths.
+#![tactic(auto)]
+
 ghost use Rattle.std.specs.Prelude.{◌≡◌, ◌+◌, ◌*◌, ◌^◌, ◌≤◌, ◌<◌, length, take};
 ghost use Rattle.limits.specs.Limits.{longest_pattern, most_tags};
 ghost use Rattle.cascades.specs.Value.{kind_of, places};

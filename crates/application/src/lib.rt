@@ -1,5 +1,7 @@
 // A book's rules applied to a sentence where it stands, piece by piece. Beside it lies v, which gets the number of the last rule that rewrote each
 // tag; a v of no length is for runs that want no numbers.
+#![tactic(auto)]
+
 ghost use Rattle.std.specs.Prelude.{◌≡◌, ℕ, ◌+◌, ◌≤◌, ◌<◌, length, drop, replicate};
 ghost use Rattle.limits.specs.Limits.{no_end, most_rules};
 ghost use Rattle.words.specs.Word.{Below};

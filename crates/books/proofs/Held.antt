@@ -1,5 +1,5 @@
 -- What the arrays hold after a reading: the book's rules, or its refusal.
-use Prim.Native.Nat.{ℕ, suc, ◌<◌}
+use Prim.Native.Nat.{ℕ, zero, suc, ◌<◌}
 use native.Mathlib.Decide.{ℕ_discrete}
 use native.Mathlib.Omega.{arith}
 use mathlib.Core.Path.{◌≡◌, sym, ◌∙◌, subst}
@@ -20,6 +20,7 @@ use Rattle.books.proofs.Arrays.{down-length}
 use Rattle.books.proofs.Encode.{reads_exactly, valid-reverse}
 
 down-valid : (l k : ℕ) (a : Arrays) (m : ℕ) → ValidRules l k (rules_down a m) → (i : ℕ) → i < m → ValidRule l k (rule_at a i)
+down-valid l k a zero h i n = elim n [ ]
 down-valid l k a (suc m) h i n = at (ℕ_discrete i m) (down-valid l k a m h.1 i)
   where
     at : Dec (i ≡ m) → (i < m → ValidRule l k (rule_at a i)) → ValidRule l k (rule_at a i)

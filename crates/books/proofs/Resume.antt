@@ -5,7 +5,6 @@ use native.Mathlib.Numerals.{add-one}
 use mathlib.Core.Path.{◌≡◌, refl, sym, ap, ◌∙◌, subst}
 use mathlib.Core.List.{List, [], ◌∷◌, ◌++◌}
 use mathlib.Core.Bool.{Bool, true, false}
-use mathlib.Core.Logic.{◌⊎◌, inl, inr}
 use lib.ListN.{length, get_or, set, take, length-reverse}
 use Rattle.limits.specs.Limits.{most_rules, most_tags, longest_pattern}
 use Rattle.limits.specs.declared.Limits.{Limits}
@@ -188,13 +187,12 @@ module _ (lim : Limits) (s : List ℕ) (from k m : ℕ) (part whole : Outcome Ca
   pub pattern-goes_on : (at m' : ℕ) → t ≡ Next.To at → m' ≡ m → read_commands lim s k m' a at ≡ whole
   pattern-goes_on at m' e f = ap (λ (n : ℕ). read_commands lim s k n a at) f ∙ subst (λ (x : Next). Continued lim s k m a x part) e got.goes_on ∙ w
 
--- an answer that is no book, by its number among the cases, is the outcome of the reading that it resumes
-pub other-ends : {lim : Limits} (tag : Reading → ℕ) → ((k m : ℕ) → tag (Book k m) ≡ 0) → (s : List ℕ) (from whole : Outcome Cascade) (next : ℕ) (a : Arrays) (r : Reading)
-    → (tag r ≡ 1) ⊎ (tag r ≡ 2) → Resumes lim s from next a r → from ≡ whole → Reads whole a r
-other-ends tag book s from whole next a (Book k m) (inl e) f w = absurd (omega (arith, e, book k m))
-other-ends tag book s from whole next a (Book k m) (inr e) f w = absurd (omega (arith, e, book k m))
-other-ends tag book s from whole next a (Refused x) d f w = record { outcome = f.goes_on ∙ w; shaped = f.shaped }
-other-ends tag book s from whole next a Sets d f w = record { outcome = f.goes_on; shaped = f.shaped }
+-- an answer that is no book is the outcome of the reading that it resumes
+pub other-ends : {lim : Limits} (s : List ℕ) (from all : Outcome Cascade) (next : ℕ) (a : Arrays) (r : Reading) → ((k m : ℕ) → r ≡ Book k m → ⊥) → Resumes lim s from next a r
+    → from ≡ all → Reads all a r
+other-ends s from all next a (Book k m) n f w = absurd (n k m refl)
+other-ends s from all next a (Refused x) n f w = record { outcome = f.goes_on ∙ w; shaped = f.shaped }
+other-ends s from all next a Sets n f w = record { outcome = f.goes_on; shaped = f.shaped }
 
 -- the commands end where one is to come
 pub reading_missing : (lim : Limits) (s : List ℕ) (k m : ℕ) (a : Arrays) (at : ℕ) → at ≡ length s → (r : Reading) → r ≡ Refused (AtByte 1 at) → Shaped a

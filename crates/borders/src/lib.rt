@@ -1,5 +1,7 @@
 // The longest border of each prefix of a pattern, by one value that is carried along: Morris and Pratt's.
 // Time O(l) for a pattern of l tags, with fewer than 2 l comparisons of two tags.
+#![tactic(auto)]
+
 ghost use Rattle.std.specs.Prelude.{◌≡◌, ◌<◌, length};
 ghost use Rattle.borders.specs.Border.{comparisons, Bordered};
 

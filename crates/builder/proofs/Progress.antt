@@ -11,7 +11,7 @@ use lib.ListN.{length}
 use Rattle.limits.specs.Work.{rule_states, rule_holds}
 use Rattle.limits.specs.declared.Limits.{Limits}
 use Rattle.limits.proofs.Work.{rule_fits, deep_enough, states_most, few_states}
-use Rattle.answers.specs.Outcome.{Outcome, result, refused, rule}
+use Rattle.answers.specs.Outcome.{result, refused, rule}
 use Rattle.cascades.specs.Rule.{Rule, has_set, ValidRule, ValidRules, Cascade, having, ending, some_has_set}
 use Rattle.cascades.specs.Ending.{misused}
 use Rattle.cascades.specs.Spares.{Spares, Spare}

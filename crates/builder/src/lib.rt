@@ -1,5 +1,7 @@
 // From the rules in the reader's arrays to the bytes of their table: the phases for each rule, then the encoder.
 // Time is that of the phases on the table so far composed with one rule, once for each rule; space is the work slice.
+#![tactic(auto)]
+
 ghost use Rattle.std.specs.Prelude.{◌≤◌, ◌<◌, length};
 ghost use Rattle.answers.specs.Slice.{fitting};
 ghost use Rattle.tables.specs.Bytes.{encode};
@@ -31,7 +33,7 @@ fn finish(work: &[u16], g: Grid, n: usize, out: &mut [u8]) -> CompileAnswer
 }
 
 // The rows of a table that is built, or 10.
-#[derive(Drop)]
+#[derive(Clone, Copy)]
 pub enum Built {
     Rows(usize),
     Refused(Refusal),

@@ -1,4 +1,6 @@
 // Rules and cascades: definitions and laws in specs/ and proofs/, a rule as one value, and the places of a pattern.
+#![tactic(auto)]
+
 ghost use Rattle.std.specs.Prelude.{◌≡◌, ◌≤◌, length, take, get_or};
 ghost use Rattle.limits.specs.Limits.{longest_pattern};
 ghost use Rattle.cascades.specs.Pattern.{member, accepts};
@@ -8,7 +10,7 @@ use limits::PATTERN;
 
 // A rule. The first `length` tags of the row are its pattern, 0 at a set; the first `sets` places may be sets, which stand beside. specs/Value.antt
 // says which rule it is.
-#[derive(Drop)]
+#[derive(Clone, Copy)]
 pub struct Rule {
     pub everywhere: bool,
     pub row: [u8; PATTERN],

@@ -1,5 +1,7 @@
 // The check of a table against a book (document 02, W10): the book is read, then the table, the book's own table is built in the work slice, both are compared, and the
 // work slice is wiped.
+#![tactic(auto)]
+
 ghost use Rattle.std.specs.Prelude.{◌≡◌, false, ◌+◌, ◌*◌, ◌≤◌, length};
 ghost use Rattle.limits.specs.Limits.{InRange};
 ghost use Rattle.cascades.specs.Rule.{ending};

@@ -1,4 +1,6 @@
 // The leftmost match of a pattern with sets (document 02, W9). A pattern is a row of tags and, up to its last set, a row of sets, 0 where a tag stands.
+#![tactic(auto)]
+
 ghost use Rattle.std.specs.Prelude.{◌≡◌, ◌+◌, ◌≤◌, ◌<◌, length, take, drop};
 ghost use Rattle.limits.specs.Limits.{longest_pattern};
 ghost use Rattle.cascades.specs.Pattern.{fits};

@@ -1,6 +1,8 @@
 // The commands of a book, one function each: what it makes of the rules in the caller's arrays, and where the reading goes on.
+#![tactic(auto)]
+
 ghost use Rattle.std.specs.Prelude.{◌≡◌, true, false, ◌+◌, ◌≤◌, ◌<◌, length, get_or};
-ghost use Rattle.answers.specs.Outcome.{result, and_then};
+ghost use Rattle.answers.specs.Outcome.{Outcome, and_then};
 ghost use Rattle.answers.specs.declared.Refusal.TheVariants.{AtByte};
 ghost use Rattle.limits.specs.Limits.{InRange, most_rules, most_tags, longest_pattern};
 ghost use Rattle.limits.specs.declared.Limits.{Limits};
@@ -8,7 +10,7 @@ ghost use Rattle.cascades.specs.Rule.{Kind};
 ghost use Rattle.books.specs.declared.Reading.{Reading};
 ghost use Rattle.books.specs.Book.{opener};
 ghost use Rattle.books.specs.Read.{Stage, read, closing, set_read};
-ghost use Rattle.books.specs.Arrays.{Arrays, arrays, Shaped, rules_down};
+ghost use Rattle.books.specs.Arrays.{Arrays, arrays, holding, Shaped, rules_down};
 ghost use Rattle.books.specs.Resume.{Resumes, NoRule, Opens, TagsRead, PlaceRead, PlacesRead, read_commands, ReadAs, number_at, faulted};
 
 use answers::Refusal;
@@ -18,7 +20,7 @@ use words::wide;
 
 // The refusal of that number, which names the byte.
 pub fn refused(number: u8, byte: usize) -> Reading
-    ensures* { λ r. ⌜ r ≡ Reading.Refused (AtByte number byte) ⌝ }
+    ensures { result ≡ Reading.Refused (AtByte number byte) }
 {
     Reading::Refused(Refusal::AtByte { number, byte })
 }
@@ -33,7 +35,7 @@ fn closing_fault(
 ) -> u8
     requires shaped { Shaped (arrays rows lengths heads sets.now) }
     requires m_le_most_rules { m ≤ most_rules }
-    ensures* { λ r. ⌜ closing (rules_down (arrays rows.entry lengths.entry heads.entry sets.now) m) ≡ faulted r ⌝ }
+    ensures { closing (rules_down (arrays rows.entry lengths.entry heads.entry sets.now) m) ≡ faulted result }
 {
     if m == 0 {
         return 0;
@@ -59,8 +61,8 @@ fn closing_fault(
 // 20 and K.
 pub fn open_book(s: &[u8], lim: Limits) -> Reading
     requires { InRange lim }
-    ensures* resumes { λ r. ⌜ ((a : Arrays) → Shaped a → Resumes lim s.now (read lim s.now) 2 a r) ⌝ }
-    ensures* empty { λ r. ⌜ NoRule r ⌝ }
+    ensures resumes { (a : Arrays) → Shaped a → Resumes lim s.now (read lim s.now) 2 a result }
+    ensures empty { NoRule result }
 {
     if s.len() == 0 {
         return refused(1, 0);
@@ -95,7 +97,7 @@ pub fn end_book(
 ) -> Reading
     requires shaped { Shaped (arrays rows lengths heads sets.now) }
     requires m_le_most_rules { (m ≤ most_rules) × (at < length s.now) × (get_or s.now at 0 ≡ 0) }
-    ensures* { λ r. ⌜ ((lim : Limits) → ReadAs r (arrays rows.entry lengths.entry heads.entry sets.now) (read_commands lim s.now k m (arrays rows.entry lengths.entry heads.entry sets.now) at)) ⌝ }
+    ensures { (lim : Limits) → ReadAs result (arrays rows.entry lengths.entry heads.entry sets.now) (read_commands lim s.now k m (arrays rows.entry lengths.entry heads.entry sets.now) at) }
 {
     let fault = closing_fault(rows, lengths, heads, sets, m);
     if fault != 0 {
@@ -120,11 +122,11 @@ pub fn open_rule(
     sets: &[[u64; PATTERN]],
     lim: Limits,
 ) -> Reading
-    requires shaped { Shaped (arrays rows lengths heads sets.now) }
+    requires shaped { Shaped (holding rows.now lengths.old heads.old sets.now) }
     requires m_le_most_rules { (m ≤ most_rules) × (at < length s.now) × ((kind : Kind) × (get_or s.now at 0 ≡ opener kind)) }
     requires in_range { InRange lim }
-    ensures* resumes { λ r. ⌜ Resumes lim s.now (read_commands lim s.now k m (arrays rows.entry lengths.entry heads.entry sets.now) at) (at + 1 + 1 + 1) (arrays rows.entry lengths.exit heads.exit sets.now) r ⌝ }
-    ensures* opens { λ r. ⌜ Opens k m (arrays rows.entry lengths.exit heads.exit sets.now) r ⌝ }
+    ensures resumes { Resumes lim s.now (read_commands lim s.now k m (holding rows.now lengths.old heads.old sets.now) at) (at + 1 + 1 + 1) (holding rows.now lengths.new heads.new sets.now) result }
+    ensures opens { Opens k m (holding rows.now lengths.new heads.new sets.now) result }
 {
     let fault = closing_fault(rows, lengths, heads, sets, m);
     if fault != 0 {
@@ -156,7 +158,7 @@ pub fn open_rule(
 // 22 at `from` and on: the tags of a pattern, into its row.
 pub fn read_tags(s: &[u8], from: usize, k: u8, row: &mut [u8; PATTERN], most: usize) -> Tags
     requires { (from ≤ length s.now) × (length row.old ≡ longest_pattern) × (most ≤ longest_pattern) }
-    ensures* { λ r. ⌜ TagsRead s.now from k most row.new r ⌝ }
+    ensures { TagsRead s.now from k most row.new result }
 {
     let mut at = from;
     let mut n = 0;
@@ -191,7 +193,7 @@ const SET: usize = 6;
 // The set that six bytes from `at` on give, high byte first.
 fn read_set(s: &[u8], at: usize) -> u64
     requires { at + 6 ≤ length s.now }
-    ensures* { λ r. ⌜ r ≡ number_at s.now at 6 ⌝ }
+    ensures { result ≡ number_at s.now at 6 }
 {
     let mut set = 0u64;
     let mut i = 0;
@@ -205,13 +207,13 @@ fn read_set(s: &[u8], at: usize) -> u64
 // The byte i of a set.
 fn set_byte(s: &[u8], at: usize, i: usize) -> u64
     requires { (at + 6 ≤ length s.now) × (i < 6) }
-    ensures* { λ r. ⌜ (r ≡ get_or s.now (at + i) 0) × (r < 256) ⌝ }
+    ensures { (result ≡ get_or s.now (at + i) 0) × (result < 256) }
 {
     wider(s[at + i])
 }
 
 fn wider(x: u8) -> u64
-    ensures* { λ r. ⌜ (r ≡ x) × (r < 256) ⌝ }
+    ensures { (result ≡ x) × (result < 256) }
 {
     x as u64
 }
@@ -219,7 +221,7 @@ fn wider(x: u8) -> u64
 // The refusal that a set over k tags gives, 0 for none.
 fn set_fault(k: u8, set: u64) -> u8
     requires { k ≤ most_tags }
-    ensures* { λ r. ⌜ ((next : Stage) → set_read k set next ≡ and_then (faulted r) (λ x. result next)) ⌝ }
+    ensures { (next : Stage) → set_read k set next ≡ and_then (faulted result) (λ x. Outcome.result next) }
 {
     if set >> k != 0 {
         return 4;
@@ -233,7 +235,7 @@ fn set_fault(k: u8, set: u64) -> u8
 // The place of a pattern that 22 or 23 at `at` gives.
 fn read_place(s: &[u8], at: usize, k: u8) -> Place
     requires { (at < length s.now) × (k ≤ most_tags) × ((get_or s.now at 0 ≡ 0x22 → ⊥) → get_or s.now at 0 ≡ 0x23) }
-    ensures* { λ r. ⌜ PlaceRead s.now at k r ⌝ }
+    ensures { PlaceRead s.now at k result }
 {
     let first = at + 1;
     if s[at] == 0x22 {
@@ -279,8 +281,8 @@ fn read_place(s: &[u8], at: usize, k: u8) -> Place
 }
 
 // One more than the place of the last set, when the place before n is the set, or a tag, with 0 for a set.
-fn last_set_lem(last: usize, n: usize, set: u64) -> usize
-    ensures* { λ r. ⌜ (set ≡ 0 → r ≡ last) × ((set ≡ 0 → ⊥) → r ≡ n) ⌝ }
+fn last_set(last: usize, n: usize, set: u64) -> usize
+    ensures { (set ≡ 0 → result ≡ last) × ((set ≡ 0 → ⊥) → result ≡ n) }
 {
     if set == 0 {
         return last;
@@ -290,7 +292,7 @@ fn last_set_lem(last: usize, n: usize, set: u64) -> usize
 
 // Neither 22 nor 23.
 fn ends_pattern(command: u8) -> bool
-    ensures* { λ r. ⌜ (r ≡ true → (command ≡ 0x22 → ⊥) × (command ≡ 0x23 → ⊥)) × (r ≡ false → (command ≡ 0x22 → ⊥) → command ≡ 0x23) ⌝ }
+    ensures { (result ≡ true → (command ≡ 0x22 → ⊥) × (command ≡ 0x23 → ⊥)) × (result ≡ false → (command ≡ 0x22 → ⊥) → command ≡ 0x23) }
 {
     if command == 0x22 {
         return false;
@@ -311,7 +313,7 @@ pub fn read_places(
     most: usize,
 ) -> Places
     requires { (from ≤ length s.now) × (length row.old ≡ longest_pattern) × (length sets.old ≡ longest_pattern) × (most ≤ longest_pattern) × (k ≤ most_tags) }
-    ensures* { λ r. ⌜ PlacesRead s.now from k most row.new sets.new r ⌝ }
+    ensures { PlacesRead s.now from k most row.new sets.new result }
 {
     let mut at = from;
     let mut n = 0;
@@ -336,7 +338,7 @@ pub fn read_places(
                 row[n] = tag;
                 sets[n] = set;
                 n += 1;
-                last = last_set_lem(last, n, set);
+                last = last_set(last, n, set);
                 at = next;
             }
         }

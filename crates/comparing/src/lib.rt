@@ -1,5 +1,7 @@
 // Whether two tables that make the same of a word make the same of it with one tag more. The first stands in its bytes, with its index; the second in the first
 // rows of the work slice. Both words are put into buffers and compared; time O(h) for h held tags.
+#![tactic(auto)]
+
 ghost use Rattle.std.specs.Prelude.{◌≡◌, ℕ, ◌+◌, ◌*◌, ◌-◌, ◌≤◌, ◌<◌, List, [], ◌∷◌, ◌++◌, length, take, get_or};
 ghost use Rattle.std.proofs.Math.Seq.{paste};
 ghost use Rattle.words.specs.Decides.{Decides};

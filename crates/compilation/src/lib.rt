@@ -1,1 +1,2 @@
 // What compiling a book answers. Definitions and theorems only: specs/ and proofs/.
+#![tactic(auto)]

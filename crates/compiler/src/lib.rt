@@ -1,4 +1,6 @@
 // The compile call: a book is read, the work slice laid out, the table built, and the work slice wiped.
+#![tactic(auto)]
+
 ghost use Rattle.std.specs.Prelude.{◌≡◌, false, ◌+◌, ◌*◌, ◌≤◌, ◌++◌, length, drop, replicate};
 ghost use Rattle.answers.specs.Slice.{long_of, written};
 ghost use Rattle.answers.specs.Answer.{compile_outcome};

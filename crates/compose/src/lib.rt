@@ -1,6 +1,8 @@
 // Composition: the result puts out what the second transducer makes of what the first puts out.
 // Time O(p k d) for p reached pairs of states, k tags and words of d tags; space is the p rows of the result, and notes in n m rows for
 // n and m states. From Roche and Schabes (002, section 2): run the second on each output of the first.
+#![tactic(auto)]
+
 ghost use Rattle.std.specs.Prelude.{◌+◌, ◌*◌, ◌/◌, ◌%◌, ◌<◌, []};
 ghost use Rattle.transducers.specs.Compose.{product};
 ghost use Rattle.workspace.specs.Entries.{FINAL};

@@ -1,4 +1,6 @@
 // Reading the bytes of a table. The states go to an index, from which a table is run.
+#![tactic(auto)]
+
 ghost use Rattle.std.specs.Prelude.{◌≡◌, ◌+◌, ◌*◌, ◌≤◌, length};
 ghost use Rattle.limits.specs.Limits.{most_tags, most_states, InRange};
 ghost use Rattle.decoder.specs.Index.{Head, HeadRead, RowsRead, LoadedIf};
@@ -14,7 +16,7 @@ use words::wide;
 pub const ENTRIES: usize = limits::STATES * (limits::TAGS + 1);
 
 // The K and the S of a table.
-#[derive(Drop)]
+#[derive(Clone, Copy)]
 pub enum TableAnswer {
     Table { tags: usize, states: usize },
     Refused(Refusal),

@@ -1,5 +1,7 @@
 // The bytes of a table that stands in the work slice (document 01, "Bytes of a table").
 // Time O(b) for b bytes.
+#![tactic(auto)]
+
 ghost use Rattle.std.specs.Prelude.{◌≡◌, ◌+◌, ◌*◌, ◌≤◌, ◌<◌, length};
 ghost use Rattle.tables.specs.Bytes.{tagged, joined, step_bytes, row_bytes, encode};
 ghost use Rattle.workspace.specs.Cells.{word, Sized};

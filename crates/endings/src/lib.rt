@@ -1,4 +1,6 @@
 // Whether a book can be used with an end tag (document 02, W1): 14.
+#![tactic(auto)]
+
 ghost use Rattle.std.specs.Prelude.{◌≡◌, ℕ, ◌≤◌, ◌<◌, List, length, take};
 ghost use Rattle.limits.specs.Limits.{most_rules, longest_pattern};
 ghost use Rattle.cascades.specs.Pattern.{plain};

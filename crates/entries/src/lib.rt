@@ -1,5 +1,7 @@
 // What is read off the entries of a table's index, and the numbers that stand for them in a loaded table: of a word, and of where a step leads.
 // Time O(1), for the first state that rests O(k s) with k tags and s states, and for the tags of a longer word O(w) with w of them.
+#![tactic(auto)]
+
 ghost use Rattle.std.specs.Prelude.{◌≡◌, ℕ, ◌+◌, ◌*◌, ◌≤◌, ◌<◌, List, length};
 ghost use Rattle.std.proofs.lemmas.List.Edits.{sets};
 ghost use Rattle.limits.specs.declared.Limits.{Limits};

@@ -2,6 +2,8 @@
 // Karp, "A linear algorithm for testing equivalence of finite automata", 1971). The list begins with the empty word; each listed word is tried with each tag more, and
 // where that leads to states of different labels it is listed, and one label becomes the other. A table that puts out later does the same: only what both make of a
 // word is compared. Time O(s * k) comparisons of a step for s states of both.
+#![tactic(auto)]
+
 ghost use Rattle.std.specs.Prelude.{◌≡◌, ◌+◌, ◌≤◌, ◌<◌, length};
 ghost use Rattle.agreement.specs.Search.{StepAgrees};
 ghost use Rattle.agreement.specs.Stored.{Searching, left_at, right_at};
@@ -16,21 +18,21 @@ use steps::next_state;
 use workspace::{Grid, NEXT, get};
 
 // Whether both make the same of every sentence, or how many tags a sentence has on which they differ.
-#[derive(Drop)]
+#[derive(Clone, Copy)]
 pub enum Verdict {
     Same,
     Differs(usize),
 }
 
 // Of a listed word: how many words are listed after it was tried with every tag, or a tag with which both differ.
-#[derive(Drop)]
+#[derive(Clone, Copy)]
 enum Tried {
     Agrees(usize),
     Differs(usize),
 }
 
 // Of the whole search: that no listed word differs, or one and a tag.
-#[derive(Drop)]
+#[derive(Clone, Copy)]
 enum Sighting {
     Nowhere,
     At { word: usize, tag: usize },

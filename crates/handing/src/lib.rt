@@ -1,4 +1,6 @@
 // An open sentence as the three numbers that C has of it.
+#![tactic(auto)]
+
 ghost use Rattle.std.specs.Prelude.{◌≡◌};
 ghost use Rattle.answers.specs.Answer.{write_outcome};
 ghost use Rattle.packing.specs.Packed.{packed, Legible};

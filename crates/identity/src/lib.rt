@@ -1,5 +1,7 @@
 // The table of no rules in the work slice: one state that puts out what it reads.
 // Time O(k) for k tags.
+#![tactic(auto)]
+
 ghost use Rattle.std.specs.Prelude.{◌<◌, [], ◌∷◌};
 ghost use Rattle.transducers.specs.Tabulate.{table};
 ghost use Rattle.minimal.specs.TableOf.{identity};

@@ -1,4 +1,6 @@
 // The states of a table from its bytes to an index, row by row.
+#![tactic(auto)]
+
 ghost use Rattle.std.specs.Prelude.{◌+◌, ◌*◌, ◌≤◌, ◌<◌, length};
 ghost use Rattle.tables.specs.Bytes.{joined, step_bytes, row_bytes};
 ghost use Rattle.tables.specs.Decode.{many, read_step, read_row};

@@ -1,4 +1,6 @@
 // The leftmost occurrence of a pattern: where it begins.
+#![tactic(auto)]
+
 ghost use Rattle.std.specs.Prelude.{◌+◌, ◌≤◌, ◌<◌, length, drop};
 ghost use Rattle.words.specs.Word.{prefix};
 ghost use Rattle.places.specs.Places.{Places, Free, FoundWithin};

@@ -1,4 +1,6 @@
 // Whether the steps of a table are balanced, from the counts in its index.
+#![tactic(auto)]
+
 ghost use Rattle.std.specs.Prelude.{ℕ, ◌+◌, ◌*◌, ◌≤◌, ◌<◌, length};
 ghost use Rattle.words.specs.Decides.{Decides};
 ghost use Rattle.leveling.specs.Level.{Level, Linked};

@@ -1,4 +1,6 @@
 // The bounds of document 01, and the limits that a call is given (document 02, W8). specs/Limits.antt has them for definitions.
+#![tactic(auto)]
+
 ghost use Rattle.std.specs.Prelude.{◌≡◌};
 ghost use Rattle.limits.specs.Limits.{limits_of, InRange, between, in_range, most_held};
 ghost use Rattle.limits.specs.Work.{rule_states};
@@ -13,7 +15,7 @@ pub const NO_END: u8 = 255;
 pub const STATES: usize = 256;
 
 // The most tags in a pattern, the most rules in a book, and the most tags of a book or a table.
-#[derive(Drop)]
+#[derive(Clone, Copy)]
 pub struct Limits {
     pub pattern: usize,
     pub rules: usize,

@@ -1,5 +1,7 @@
 // The labels and the list of a search for a word of which two transducers make different words, in two slices of numbers. A word is stored by its last tag and the
 // place of the word without it. Time O(s) for s labels to rename one, O(n) to write a word of n tags, O(1) for every other call.
+#![tactic(auto)]
+
 ghost use Rattle.std.specs.Prelude.{◌≡◌, ℕ, ◌+◌, ◌*◌, ◌≤◌, ◌<◌, List, [], ◌∷◌, ◌++◌, length, drop};
 ghost use Rattle.agreement.specs.Search.{renamed};
 ghost use Rattle.agreement.specs.Stored.{label_at, left_at, right_at, Chained, PairPut};

@@ -1,1 +1,2 @@
 // The numbers of a loaded table, as definitions and laws.
+#![tactic(auto)]

@@ -15,7 +15,7 @@ use Rattle.answers.specs.Outcome.{Outcome, result, refused, nothing, and_then, p
 use Rattle.answers.specs.Slice.{fitting}
 use Rattle.answers.specs.Answer.{refusal, write_outcome}
 use Rattle.answers.specs.declared.WriteAnswer.{WriteAnswer}
-use Rattle.answers.specs.declared.WriteAnswer.TheVariants.{Refused}
+use Rattle.answers.specs.declared.WriteAnswer.TheVariants.{Written, Refused}
 use Rattle.answers.specs.declared.Refusal.{Refusal}
 use Rattle.answers.proofs.Outcome.{refusal_then}
 use Rattle.answers.proofs.Slice.{filled-refused}
@@ -61,7 +61,7 @@ module _ {lim : Limits} (bs ix : List ℕ) (k s : ℕ) (head : Head lim bs k s) 
   abbrev tags : List ℕ
   tags = joined row_behind t
 
-  states : length t ≡ s
+  pub states : length t ≡ s
   states = states-read bs ix k s head bytes l
 
   pub as_encoded : length bs ≡ length (encode k l.table)
@@ -122,7 +122,7 @@ module _ {lim : Limits} (bs ix : List ℕ) (k s : ℕ) (head : Head lim bs k s) 
 
   -- the numbers have been written
   pub load_whole : (before after : List ℕ) (rested to : ℕ) → length ns ≤ length before → Base k (first_resting t s 0) rested
-      → RowsWritten t k s rested (set before 0 k) after to → LoadRan lim bs before after (Load to)
+      → RowsWritten t k s rested (set before 0 k) after to → LoadRan lim bs before after (Written to)
   load_whole before after rested to fits base w =
       let o = loads before true (le-leb (length ns) (length before) fits) in
       let count : to ≡ length ns = w.place_is ∙ sym numbers-long in

@@ -1,5 +1,7 @@
 // Loading a table: its numbers to the front of a slice. The table is read into an index, and its numbers are written from the index row by row,
 // the tags of longer words behind the rows. Time O(b) for b bytes; space is the index.
+#![tactic(auto)]
+
 ghost use Rattle.std.specs.Prelude.{◌≡◌, ◌+◌, ◌*◌, ◌≤◌, length};
 ghost use Rattle.limits.specs.Limits.{most_tags, most_states};
 ghost use Rattle.decoder.specs.Index.{Head};

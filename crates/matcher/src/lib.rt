@@ -1,5 +1,7 @@
 // The states of the transducer of a rule without sets as numbers, and where a step leads from each, in time O(1).
 // From 002, definition 2, after Simon's string matching automaton: the states are the prefixes of the pattern, here by their lengths.
+#![tactic(auto)]
+
 ghost use Rattle.std.specs.Prelude.{◌≡◌, ◌≤◌, ◌<◌, length};
 ghost use Rattle.limits.specs.Limits.{longest_pattern};
 ghost use Rattle.cascades.specs.Value.{kind_of};

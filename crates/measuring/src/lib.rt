@@ -1,4 +1,6 @@
 // How many numbers a table has, from its index, and whether they fit into a slice. Time O(k s) for k tags and s states.
+#![tactic(auto)]
+
 ghost use Rattle.std.specs.Prelude.{◌≡◌, ℕ, ◌+◌, ◌*◌, ◌≤◌, ◌<◌, List, length};
 ghost use Rattle.limits.specs.Limits.{most_tags, most_states};
 ghost use Rattle.limits.specs.declared.Limits.{Limits};

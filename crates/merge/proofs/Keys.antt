@@ -10,7 +10,7 @@ use Rattle.words.proofs.Word.{below_suc}
 use mathlib.Core.Logic.{◌⊎◌, inl, inr}
 use Rattle.workspace.specs.declared.Grid.{Grid}
 use Rattle.workspace.specs.Entries.{FINAL, CLASS}
-use Rattle.workspace.specs.Cells.{at, Kept, Spare}
+use Rattle.workspace.specs.Cells.{Kept, Spare}
 use Rattle.workspace.specs.Holds.{Ready, standing}
 use Rattle.workspace.proofs.Views.{same-table, ready-kept}
 use Rattle.merge.specs.Classes.{class_of, Words, Nexts, Key, Partition}

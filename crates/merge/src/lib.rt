@@ -2,6 +2,8 @@
 // Time O(r n k c) for r rounds (at most n, in practice a few), n states, k tags and c names tried for a state, which are those of the new
 // classes within its old one; the first round compares words of d tags, O(n k c d). Space is three notes in each row.
 // From Moore: states are told apart by what they put out at a step, then by where the step leads, until no class splits.
+#![tactic(auto)]
+
 ghost use Rattle.std.specs.Prelude.{◌≡◌, ℕ, ◌+◌, ◌<◌, true, false};
 ghost use Rattle.words.specs.Decides.{Decides};
 ghost use Rattle.workspace.specs.Holds.{Ready, standing};
@@ -13,7 +15,7 @@ use workspace::{
     CLASS, FINAL, Grid, HEAD, LINK, NEW, NEXT, OUTPUT, clear_notes, get, put, same_words,
 };
 
-#[derive(Drop)]
+#[derive(Clone, Copy)]
 pub struct Walked {
     pub at: usize,
     pub hit: bool,

@@ -108,8 +108,8 @@ masked (c ∷ u) a zero t x h l = rw (x_is l) (by t (accepts c a))
 
     by : (t d : Bool) → bit_and (bit t * 1 + 0) (bit d + 2 * accepting u a) ≡ bit (elim t as (λ y. Bool) [ true ↦ d | false ↦ false ]) * 1 + 0
     by false d = refl
-    by true true = ap (λ (y : ℕ). 0 + min 1 y) (add-mul-mod_self_left 1 2 (accepting u a))
-    by true false = ap (λ (y : ℕ). 0 + min 1 y) (add-mul-mod_self_left 0 2 (accepting u a))
+    by true true = and_step 1 (1 + 2 * accepting u a) ∙ ap (λ (y : ℕ). 0 + min 1 y) (add-mul-mod_self_left 1 2 (accepting u a))
+    by true false = and_step 1 (0 + 2 * accepting u a) ∙ ap (λ (y : ℕ). 0 + min 1 y) (add-mul-mod_self_left 0 2 (accepting u a))
 masked (c ∷ u) a (suc m) t x h l =
     let z = bit (accepts c a) + 2 * accepting u a in
     let half : accepting u a ≡ z / 2 = omega (arith, bit-few (accepts c a)) in

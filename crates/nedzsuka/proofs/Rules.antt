@@ -1,5 +1,5 @@
 -- Each tag with its rule (document 02, W6), about the function for C: from nothing but its contract.
-use Prim.Native.Nat.{ℕ, ◌+◌, ◌%◌, ◌<◌, min}
+use Prim.Native.Nat.{ℕ, ◌%◌, ◌<◌, min}
 use native.Mathlib.Omega.{arith}
 use mathlib.Core.Path.{◌≡◌, sym, ap, ◌∙◌, subst}
 use mathlib.Core.List.{List, ◌++◌}

@@ -2,6 +2,8 @@
 // the rules, the runs of a table and of a loaded one, loading, the two readers and typing, each answering one number. Compile and the runs of a
 // book and of a table are there with a host's limits too; all others have those of document 01.
 // include/nedzsuka.h tells a host what they promise.
+#![tactic(auto)]
+
 ghost use Rattle.std.specs.Prelude.{◌≡◌, min, length};
 ghost use Rattle.limits.specs.Limits.{no_end, standard, limits_of};
 ghost use Rattle.answers.specs.Slice.{long_of, written};

@@ -9,7 +9,7 @@ use Rattle.words.specs.Word.{Prefix}
 use Rattle.words.proofs.Front.{begins_length}
 use Rattle.transducers.specs.Transducer.{puts}
 use Rattle.transducers.specs.Table.{Table}
-use Rattle.transducers.specs.Tabulate.{table, Doing}
+use Rattle.transducers.specs.Tabulate.{Doing}
 use Rattle.transducers.specs.Normalize.{front, fronts, stripped, normalize, Consistent, Above}
 use Rattle.transducers.proofs.Tabulate.{length-table}
 use Rattle.transducers.proofs.Normalize.{fronts-any, doing-normalize, early-normalize}

@@ -1,6 +1,8 @@
 // Normalization: the result does the same, and each state puts out as early as can be.
 // Time O(r n k d) for r rounds (at most one for each tag held, in practice a few), n states, k tags and words of d tags; space is a note
 // in each row. From Choffrut and Mohri: what every answer from a state begins with is put out on the way into that state.
+#![tactic(auto)]
+
 ghost use Rattle.std.specs.Prelude.{◌≡◌, ℕ, ◌+◌, ◌≤◌, ◌<◌, ◌++◌, length};
 ghost use Rattle.words.specs.Front.{meet};
 ghost use Rattle.workspace.specs.Entries.{OUTPUT, FINAL};

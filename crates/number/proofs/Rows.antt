@@ -6,7 +6,7 @@ use mathlib.Core.Logic.{inl, inr}
 use mathlib.Core.List.{List, [], ◌++◌}
 use lib.ListN.{length, get_or}
 use Rattle.transducers.specs.Transducer.{puts}
-use Rattle.transducers.specs.Table.{Table, row, shape}
+use Rattle.transducers.specs.Table.{Table, shape}
 use Rattle.transducers.specs.Canonical.{Canonical}
 use Rattle.transducers.specs.Tabulate.{Doing, Made}
 use Rattle.transducers.specs.Merge.{class, classes, merge, merged}

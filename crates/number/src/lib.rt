@@ -1,6 +1,8 @@
 // Numbering: the result's states are the classes reached from state 0, in the order of first reach.
 // Time O(n k d) for n states, k tags and words of d tags; space is the rows of the result, and notes in n rows. By breadth-first search
 // (Moore): a list that grows by the unseen next states of each of its members in turn.
+#![tactic(auto)]
+
 ghost use Rattle.std.specs.Prelude.{◌≡◌, ◌+◌, ◌≤◌, ◌<◌};
 ghost use Rattle.transducers.specs.Table.{row, shape};
 ghost use Rattle.transducers.specs.Number.{note_all, order};

@@ -3,6 +3,8 @@
 // sets 2^(l - 1) + 1, one less for an everywhere rule; and a number for each prefix, with sets for each tag.
 // From 002, definition 2; with sets after Baeza-Yates and Gonnet. `matcher` has its states, and where their steps lead, without sets, and `alive`
 // with sets; `outputs` has its words.
+#![tactic(auto)]
+
 ghost use Rattle.std.specs.Prelude.{◌≡◌, ◌+◌, ◌^◌, ◌≤◌, ◌<◌, false, [], length, take, get_or};
 ghost use Rattle.limits.specs.Limits.{longest_pattern, most_tags};
 ghost use Rattle.borders.specs.Border.{Borders};

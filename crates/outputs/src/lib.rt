@@ -1,5 +1,7 @@
 // The words of a rule's transducer, written to the work slice as parts of the pattern: what is put out on a tag, and what is held at the end.
 // Time O(w) for a word of w tags.
+#![tactic(auto)]
+
 ghost use Rattle.std.specs.Prelude.{◌+◌, ◌≤◌, ◌<◌, ◌++◌, length};
 ghost use Rattle.workspace.specs.Entries.{OUTPUT, FINAL};
 ghost use Rattle.workspace.specs.Cells.{at, word, Sized, Written, part};

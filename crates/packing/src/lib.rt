@@ -1,4 +1,6 @@
 // An answer as the one number that a function for C gives (document 01, "host door").
+#![tactic(auto)]
+
 ghost use Rattle.std.specs.Prelude.{◌≡◌, ◌+◌, ◌*◌, ◌^◌, ◌<◌};
 ghost use Rattle.answers.specs.Answer.{refusal, run_outcome, write_outcome, compile_outcome};
 ghost use Rattle.packing.specs.Packed.{packed, packed_byte, Legible, LegibleByte};

@@ -1,4 +1,6 @@
 // Whether a pattern begins at a place of a sentence, and the first of some places at which it does.
+#![tactic(auto)]
+
 ghost use Rattle.std.specs.Prelude.{◌≡◌, false, ◌+◌, ◌≤◌, length, drop};
 ghost use Rattle.words.specs.Word.{prefix};
 ghost use Rattle.places.specs.Places.{Free, Places, FoundWithin};
@@ -12,7 +14,7 @@ pub const WIDE: usize = 32;
 pub const BLOCK: usize = 16;
 
 // Where a pattern begins: "the least place", or none (document 02, W5).
-#[derive(Drop)]
+#[derive(Clone, Copy)]
 pub enum Occurrence {
     At(usize),
     Nowhere,

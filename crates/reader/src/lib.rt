@@ -1,11 +1,13 @@
 // Reading a book: its commands are told apart and followed one after the other, and their rules go to the caller's arrays.
+#![tactic(auto)]
+
 ghost use Rattle.std.specs.Prelude.{◌≡◌, ◌+◌, ◌≤◌, ◌<◌, [], length, get_or};
 ghost use Rattle.limits.specs.Limits.{InRange, most_rules, most_tags};
 ghost use Rattle.limits.specs.Within.{within};
 ghost use Rattle.cascades.specs.Value.{rule_of, Formed};
 ghost use Rattle.books.specs.Read.{read};
 ghost use Rattle.cascades.specs.Rule.{some_has_set};
-ghost use Rattle.books.specs.Arrays.{arrays, Shaped, sets_at, rule_at, rules_of};
+ghost use Rattle.books.specs.Arrays.{arrays, holding, Shaped, sets_at, rule_at, rules_of};
 ghost use Rattle.books.specs.Answer.{sizes, book_outcome};
 ghost use Rattle.books.specs.Resume.{Resumes, Opens, PatternRead, Reads, Whole, read_commands};
 
@@ -36,11 +38,11 @@ fn read_rule(
     sets: &[[u64; PATTERN]],
     lim: Limits,
 ) -> Reading
-    requires shaped { Shaped (arrays rows lengths heads sets.now) }
+    requires shaped { Shaped (holding rows.now lengths.old heads.old sets.now) }
     requires m_le_most_rules { (m ≤ most_rules) × (at < length s.now) × (get_or s.now at 0 ≡ 0 → ⊥) × (get_or s.now at 0 ≡ 0x22 → m ≡ 0) × (get_or s.now at 0 ≡ 0x23 → (m ≡ 0 → ⊥) → length sets.now ≡ 0) }
     requires in_range { InRange lim }
-    ensures resumes { Resumes lim s.now (read_commands lim s.now k m (arrays rows.entry lengths.entry heads.entry sets.now) at) (at + 1 + 1 + 1) (arrays rows.entry lengths.exit heads.exit sets.now) result }
-    ensures opens { Opens k m (arrays rows.entry lengths.exit heads.exit sets.now) result }
+    ensures resumes { Resumes lim s.now (read_commands lim s.now k m (holding rows.now lengths.old heads.old sets.now) at) (at + 1 + 1 + 1) (holding rows.now lengths.new heads.new sets.now) result }
+    ensures opens { Opens k m (holding rows.now lengths.new heads.new sets.now) result }
 {
     let command = s[at];
     if command == ONCE || command == EVERYWHERE {
@@ -66,10 +68,10 @@ fn read_pattern(
     sets: &mut [[u64; PATTERN]],
     lim: Limits,
 ) -> Next
-    requires shaped { Shaped (arrays rows lengths heads sets.old) }
-    requires from_in_bounds { (from ≤ length s.now) × (k ≤ most_tags) × (m < most_rules) × (get_or lengths.old m 0 ≡ 0) × (sets_at (arrays rows lengths heads sets.old) m ≡ 0) × (length sets.old ≡ 0 → ⊥) }
+    requires shaped { Shaped (holding rows.old lengths.old heads.old sets.old) }
+    requires from_in_bounds { (from ≤ length s.now) × (k ≤ most_tags) × (m < most_rules) × (get_or lengths.old m 0 ≡ 0) × (sets_at (holding rows.old lengths.old heads.old sets.old) m ≡ 0) × (length sets.old ≡ 0 → ⊥) }
     requires in_range { InRange lim }
-    ensures { PatternRead lim s.now from k (m + 1) (read_commands lim s.now k (m + 1) (arrays rows.entry lengths.entry heads.entry sets.old) from) (arrays rows.exit lengths.exit heads.exit sets.new) result }
+    ensures { PatternRead lim s.now from k (m + 1) (read_commands lim s.now k (m + 1) (holding rows.old lengths.old heads.old sets.old) from) (holding rows.new lengths.new heads.new sets.new) result }
 {
     let places = read_places(s, from, k, &mut rows[m], &mut sets[m], lim.pattern);
     match places {
@@ -94,10 +96,10 @@ fn read_plain(
     sets: &[[u64; PATTERN]],
     lim: Limits,
 ) -> Reading
-    requires shaped { Shaped (arrays rows lengths heads sets.now) }
+    requires shaped { Shaped (holding rows.old lengths.old heads.old sets.now) }
     requires in_bounds { (2 ≤ length s.now) × (length sets.now ≡ 0) }
     requires in_range { InRange lim }
-    ensures { Reads (read_commands lim s.now k 0 (arrays rows.entry lengths.entry heads.entry sets.now) 2) (arrays rows.exit lengths.exit heads.exit sets.now) result }
+    ensures { Reads (read_commands lim s.now k 0 (holding rows.old lengths.old heads.old sets.now) 2) (holding rows.new lengths.new heads.new sets.now) result }
 {
     let mut m = 0;
     let mut at = 2;
@@ -135,10 +137,10 @@ fn read_commands(
     sets: &mut [[u64; PATTERN]],
     lim: Limits,
 ) -> Reading
-    requires shaped { Shaped (arrays rows lengths heads sets.old) }
+    requires shaped { Shaped (holding rows.old lengths.old heads.old sets.old) }
     requires in_bounds { (2 ≤ length s.now) × (k ≤ most_tags) × (length sets.old ≡ 0 → ⊥) }
     requires in_range { InRange lim }
-    ensures { Reads (read_commands lim s.now k 0 (arrays rows.entry lengths.entry heads.entry sets.old) 2) (arrays rows.exit lengths.exit heads.exit sets.new) result }
+    ensures { Reads (read_commands lim s.now k 0 (holding rows.old lengths.old heads.old sets.old) 2) (holding rows.new lengths.new heads.new sets.new) result }
 {
     let mut m = 0;
     let mut at = 2;
@@ -174,9 +176,9 @@ pub fn read_plain_into(
     sets: &[[u64; PATTERN]],
     lim: Limits,
 ) -> Reading
-    requires shaped { Shaped (arrays rows lengths heads sets.now) × (length sets.now ≡ 0) }
+    requires shaped { Shaped (holding rows.old lengths.old heads.old sets.now) × (length sets.now ≡ 0) }
     requires in_range { InRange lim }
-    ensures { Whole lim s.now (arrays rows.exit lengths.exit heads.exit sets.now) result }
+    ensures { Whole lim s.now (holding rows.new lengths.new heads.new sets.now) result }
 {
     let opened = open_book(s, lim);
     let Reading::Book { tags, rules: _ } = opened else {
@@ -194,9 +196,9 @@ pub fn read_sets_into(
     sets: &mut [[u64; PATTERN]],
     lim: Limits,
 ) -> Reading
-    requires shaped { Shaped (arrays rows lengths heads sets.old) × (length sets.old ≡ 0 → ⊥) }
+    requires shaped { Shaped (holding rows.old lengths.old heads.old sets.old) × (length sets.old ≡ 0 → ⊥) }
     requires in_range { InRange lim }
-    ensures { Whole lim s.now (arrays rows.exit lengths.exit heads.exit sets.new) result }
+    ensures { Whole lim s.now (holding rows.new lengths.new heads.new sets.new) result }
 {
     let opened = open_book(s, lim);
     let Reading::Book { tags, rules: _ } = opened else {
@@ -214,9 +216,9 @@ pub fn read_into(
     sets: &mut [[u64; PATTERN]],
     lim: Limits,
 ) -> Reading
-    requires shaped { Shaped (arrays rows lengths heads sets.old) }
+    requires shaped { Shaped (holding rows.old lengths.old heads.old sets.old) }
     requires in_range { InRange lim }
-    ensures { Whole lim s.now (arrays rows.exit lengths.exit heads.exit sets.new) result }
+    ensures { Whole lim s.now (holding rows.new lengths.new heads.new sets.new) result }
 {
     if sets.len() == 0 {
         return read_plain_into(s, rows, lengths, heads, sets, lim);

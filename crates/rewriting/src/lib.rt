@@ -1,5 +1,7 @@
 // A rule applied to a sentence: its leftmost match gets the new tag, and so do those behind it where it fires everywhere. Beside each tag that it
 // rewrites it puts its number, if there is room for numbers.
+#![tactic(auto)]
+
 ghost use Rattle.std.specs.Prelude.{◌≡◌, ◌≤◌, [], length, take, set};
 ghost use Rattle.limits.specs.Limits.{longest_pattern};
 ghost use Rattle.cascades.specs.Value.{kind_of, rule_of, rule, rule_with, places, Formed};

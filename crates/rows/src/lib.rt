@@ -1,5 +1,7 @@
 // The rows of a loaded table, from the table's index: the numbers of each state, and the tags of the longer words behind all rows.
 // Time O(k s + w) for k tags, s states and w tags in the longer words.
+#![tactic(auto)]
+
 ghost use Rattle.std.specs.Prelude.{◌≡◌, ℕ, ◌+◌, ◌*◌, ◌≤◌, ◌<◌, length, set};
 ghost use Rattle.std.proofs.lemmas.List.Edits.{sets};
 ghost use Rattle.transducers.specs.Table.{Step};

@@ -1,5 +1,7 @@
 // The run of the rules in a reader's arrays over a sentence: its refusals, or the result at the front of a slice. The slice v, which lies beside the
 // sentence, gets the number of the last rule that rewrote each tag, and has no length where a call wants no numbers.
+#![tactic(auto)]
+
 ghost use Rattle.std.specs.Prelude.{◌≡◌, ◌++◌, ◌≤◌, length, drop};
 ghost use Rattle.limits.specs.Limits.{no_end};
 ghost use Rattle.words.specs.Word.{Below};

@@ -1,4 +1,6 @@
 // What the runs of books and of tables share: a sentence's refusals, the copy and the count of changed tags.
+#![tactic(auto)]
+
 ghost use Rattle.std.specs.Prelude.{◌≡◌, ℕ, ◌+◌, ◌≤◌, List, ◌++◌, length, drop};
 ghost use Rattle.words.specs.Word.{differences};
 ghost use Rattle.sentences.specs.Run.{highest, admitted, run};
@@ -8,7 +10,7 @@ ghost use Rattle.sentences.specs.Admission.{admission_outcome, admission};
 use answers::Refusal;
 use words::lesser;
 
-#[derive(Drop)]
+#[derive(Clone, Copy)]
 pub enum Admission {
     Admitted,
     Refused(Refusal),

@@ -77,7 +77,7 @@ module _ (lim : Limits) (table : List ℕ) (bytes : Below 0x100 table) (s : Sent
   pub never_16 : (c : Call) (p : Place) → (call lim table x.sentence c).put ≡ refused 16 p → ⊥
   never_16 c p e = by c e
     where
-      step-not : {o : Outcome Step} {a room : ℕ} → GiveEnds over.tables x.sentence a room o → o ≡ refused 16 p → ⊥
+      step-not : {a room : ℕ} {o : Outcome Step} → GiveEnds over.tables x.sentence a room o → o ≡ refused 16 p → ⊥
       step-not GiveEnds.was_closed e = let z : ◌≡◌ {A = ℕ} 15 16 = cc in omega arith
       step-not (GiveEnds.no_state h) e = omega (arith, h, over.keeps.inside)
       step-not (GiveEnds.too_many h) e = let z : ◌≡◌ {A = ℕ} 13 16 = cc in omega arith

@@ -1,4 +1,6 @@
 // Both sizes of a book and of a table as the one number that a function for C gives (document 01, "host door").
+#![tactic(auto)]
+
 ghost use Rattle.std.specs.Prelude.{◌≡◌};
 ghost use Rattle.books.specs.Answer.{book_outcome};
 ghost use Rattle.decoder.specs.Answer.{table_outcome};

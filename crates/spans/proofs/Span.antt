@@ -209,6 +209,6 @@ module _ (s m r : Bor (List ℕ)) where
   pub is_whole : span s.now m.now ≡ whole → r ≡ s → IsSpan s m (span s.now m.now) r
   is_whole e h = subst (λ (x : Span). IsSpan s m x r) (sym e) h
 
-  pub is-part : (from to i j : ℕ) → span s.now m.now ≡ part from to → i ≡ from → j ≡ to → r.ptr.0 ≡ m.ref_ptr.0 → r.ptr.1 ≡ i + m.ref_ptr.1
+  pub is-part : (from to i j : ℕ) → span s.now m.now ≡ part from to → i ≡ from → j ≡ to → r.ref_ptr.0 ≡ m.ref_ptr.0 → r.ref_ptr.1 ≡ i + m.ref_ptr.1
       → r.now ≡ take (j - i) (drop i m.now) → IsSpan s m (span s.now m.now) r
   is-part from to i j e f g p q h = subst (λ (x : Span). IsSpan s m x r) (sym e) (p, omega arith, cc)

@@ -1,4 +1,6 @@
 // The proof sheet: where a result differs from its sentence.
+#![tactic(auto)]
+
 ghost use Rattle.std.specs.Prelude.{◌≡◌, length};
 ghost use Rattle.spans.specs.Span.{first_difference, last_difference, span, IsSpan};
 

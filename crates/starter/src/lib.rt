@@ -1,4 +1,6 @@
 // The starter table (document 02, W7): one rule over 48 tags for a new customer, without compiling anything.
+#![tactic(auto)]
+
 ghost use Rattle.std.specs.Prelude.{◌≡◌, length};
 ghost use Rattle.answers.specs.Answer.{compile_outcome};
 ghost use Rattle.answers.specs.Slice.{long_of, written};

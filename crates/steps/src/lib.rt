@@ -1,4 +1,6 @@
 // One step of a table: its bytes, and its entry in the index from which a table is run.
+#![tactic(auto)]
+
 ghost use Rattle.std.specs.Prelude.{◌≡◌, ℕ, ◌+◌, ◌*◌, ◌-◌, ◌/◌, ◌≤◌, ◌<◌, min, List, length, drop, get_or};
 ghost use Rattle.limits.specs.Limits.{most_tags, most_states};
 ghost use Rattle.tables.specs.Bytes.{number, step_bytes};
@@ -9,7 +11,7 @@ ghost use Rattle.steps.specs.Part.{Asked, PartRead, SameBelow, SingleIf};
 use words::wide;
 
 // Where a part of a table ends, or that the bytes there are none.
-#[derive(Drop)]
+#[derive(Clone, Copy)]
 pub enum Reached {
     To(usize),
     Malformed,

@@ -1,1 +1,2 @@
 // Tables and their bytes. Definitions and laws only: specs/ and proofs/.
+#![tactic(auto)]

@@ -1,5 +1,7 @@
 // The run of a book over a sentence. The calls with and without rule numbers are one body: the slice v, which lies beside the sentence, gets the
 // number of the last rule that rewrote each tag, and has no length where a call wants no numbers.
+#![tactic(auto)]
+
 ghost use Rattle.std.specs.Prelude.{◌≡◌, ◌≤◌, min, length};
 ghost use Rattle.limits.specs.Limits.{InRange, no_end, standard};
 ghost use Rattle.answers.specs.Slice.{written};
@@ -16,7 +18,7 @@ use running::{run_pieces, run_rules};
 use words::lesser;
 
 // What a run answers where there may be no room for sets: that the book has one, and nothing was done.
-#[derive(Drop)]
+#[derive(Clone, Copy)]
 pub enum Trial {
     Changed(usize),
     Refused(Refusal),

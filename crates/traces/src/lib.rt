@@ -1,1 +1,2 @@
 // Each tag with the number of its rule. Definitions and laws only: specs/ and proofs/.
+#![tactic(auto)]

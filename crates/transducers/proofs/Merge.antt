@@ -21,7 +21,7 @@ use Rattle.transducers.specs.Merge.{class, key_of, refine, classes, merged, merg
 use Rattle.transducers.proofs.Lower.{same_step}
 use Rattle.transducers.proofs.Find.{find-hit, find_first}
 use Rattle.transducers.proofs.Rounds.{rounds_keep, rounds-rest, total_le, total-same}
-use Rattle.transducers.proofs.Tabulate.{length-tabulate, at-tabulate, get_d_map, length-table, puts-table, walk-table, early-table, doing-table}
+use Rattle.transducers.proofs.Tabulate.{length-tabulate, at-tabulate, get_or-map_at, length-table, puts-table, walk-table, early-table, doing-table}
 
 module _ (k : ℕ) (S : Shape) (inside : Inside k S) where
   -- a state still puts out what its class does
@@ -61,13 +61,13 @@ coarse_refined k S inside early c d coarse split p q hp hq same =
 
 -- maps over the steps of two rows are equal if they are at each tag
 map_at : {A : Type 0} (f : Step → A) (l m : List Step) → map f l ≡ map f m → (i : ℕ) → f (get_or l i no_step) ≡ f (get_or m i no_step)
-map_at f l m e i = sym (ListN.get_d_map f l i no_step) ∙ ap (λ r. get_or r i (f no_step)) e ∙ ListN.get_d_map f m i no_step
+map_at f l m e i = sym (ListN.get_or-map f l i no_step) ∙ ap (λ r. get_or r i (f no_step)) e ∙ ListN.get_or-map f m i no_step
 
 map_same : {A : Type 0} (f : Step → A) (l m : List Step) → length l ≡ length m
     → ((i : ℕ) → i < length l → f (get_or l i no_step) ≡ f (get_or m i no_step)) → map f l ≡ map f m
 map_same f l m e h =
     ext_get_or (f no_step) (map f l) (map f m) (length-map l f ∙ e ∙ sym (length-map m f))
-    (λ i g. ListN.get_d_map f l i no_step ∙ h i (omega (arith, length-map l f)) ∙ sym (ListN.get_d_map f m i no_step))
+    (λ i g. ListN.get_or-map f l i no_step ∙ h i (omega (arith, length-map l f)) ∙ sym (ListN.get_or-map f m i no_step))
 
 total_bound : (l : List ℕ) (m : ℕ) → ((i : ℕ) → i < length l → get_or l i 0 ≤ m) → total l ≤ length l * m
 total_bound [] m h = omega arith
@@ -86,7 +86,7 @@ module _ (k : ℕ) (t : Table) (rows : Rows k t) (sound : Sound k (shape t)) (ea
   at-refine : (cs : List ℕ) (q : ℕ) → q < length t → class (refine t cs) q ≡ find (same_all (key_of t cs q)) (keys cs)
   unfolding keys
   at-refine cs q h =
-      get_d_map (λ key. find (same_all key) (keys cs)) (keys cs) q [] 0 (omega (arith, length-tabulate (length t) 0 (key_of t cs)))
+      get_or-map_at (λ key. find (same_all key) (keys cs)) (keys cs) q [] 0 (omega (arith, length-tabulate (length t) 0 (key_of t cs)))
       ∙ ap (λ (key : List (List ℕ)). find (same_all key) (keys cs)) (at-tabulate (length t) q (key_of t cs) [] h)
 
   refined_low : (cs : List ℕ) (q : ℕ) → q < length t → class (refine t cs) q ≤ q

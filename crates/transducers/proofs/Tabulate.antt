@@ -18,18 +18,18 @@ pub length-tabulate : {A : Type 0} (n i : ℕ) (f : ℕ → A) → length (tabul
 length-tabulate zero i f = refl
 length-tabulate (suc n) i f = ap suc (length-tabulate n (suc i) f)
 
-pub get_d_tabulate : {A : Type 0} (n i j : ℕ) (f : ℕ → A) (d : A) → j < n → get_or (tabulate n i f) j d ≡ f (i + j)
-get_d_tabulate zero i j f d h = absurd (omega arith)
-get_d_tabulate (suc n) i zero f d h = let e : i ≡ i + 0 = omega arith in ap f e
-get_d_tabulate (suc n) i (suc j) f d h = let e : suc i + j ≡ i + suc j = omega arith in get_d_tabulate n (suc i) j f d (omega arith) ∙ ap f e
+pub get_or-tabulate : {A : Type 0} (n i j : ℕ) (f : ℕ → A) (d : A) → j < n → get_or (tabulate n i f) j d ≡ f (i + j)
+get_or-tabulate zero i j f d h = absurd (omega arith)
+get_or-tabulate (suc n) i zero f d h = let e : i ≡ i + 0 = omega arith in ap f e
+get_or-tabulate (suc n) i (suc j) f d h = let e : suc i + j ≡ i + suc j = omega arith in get_or-tabulate n (suc i) j f d (omega arith) ∙ ap f e
 
 pub at-tabulate : {A : Type 0} (n j : ℕ) (f : ℕ → A) (d : A) → j < n → get_or (tabulate n 0 f) j d ≡ f j
-at-tabulate n j f d h = let e : 0 + j ≡ j = omega arith in get_d_tabulate n 0 j f d h ∙ ap f e
+at-tabulate n j f d h = let e : 0 + j ≡ j = omega arith in get_or-tabulate n 0 j f d h ∙ ap f e
 
-pub get_d_map : {A B : Type 0} (f : A → B) (l : List A) (i : ℕ) (d : A) (e : B) → i < length l → get_or (map f l) i e ≡ f (get_or l i d)
-get_d_map f [] i d e h = absurd (omega arith)
-get_d_map f (x ∷ l) zero d e h = refl
-get_d_map f (x ∷ l) (suc i) d e h = get_d_map f l i d e (omega arith)
+pub get_or-map_at : {A B : Type 0} (f : A → B) (l : List A) (i : ℕ) (d : A) (e : B) → i < length l → get_or (map f l) i e ≡ f (get_or l i d)
+get_or-map_at f [] i d e h = absurd (omega arith)
+get_or-map_at f (x ∷ l) zero d e h = refl
+get_or-map_at f (x ∷ l) (suc i) d e h = get_or-map_at f l i d e (omega arith)
 
 pub length-table : (k : ℕ) (S : Shape) → length (table k S) ≡ S.count
 length-table k S = length-tabulate S.count 0 (row_of k S)

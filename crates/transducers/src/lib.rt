@@ -1,1 +1,2 @@
 // Sequential transducers. Definitions and laws only: specs/ and proofs/.
+#![tactic(auto)]

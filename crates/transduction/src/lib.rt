@@ -1,4 +1,6 @@
 // The run of a table over a sentence, and the entry of one of its cells. Reading a table is running it over no tags.
+#![tactic(auto)]
+
 ghost use Rattle.std.specs.Prelude.{◌≡◌, ℕ, ◌+◌, ◌*◌, ◌≤◌, ◌<◌, List, ◌++◌, length, drop};
 ghost use Rattle.std.proofs.Math.Seq.{paste};
 ghost use Rattle.limits.specs.Limits.{most_tags, most_states};
@@ -82,7 +84,7 @@ fn run_loaded(
 }
 
 // What a table tells while its index is there: its run over a sentence, and the entry of one cell.
-#[derive(Drop)]
+#[derive(Clone, Copy)]
 pub struct Told {
     pub answer: RunAnswer,
     pub entry: u64,
@@ -246,7 +248,7 @@ pub fn run_table(table: &[u8], sentence: &[u8], out: &mut [u8], lim: Limits) -> 
 }
 
 // A table's K, S and the entry of a cell, or 17 or 12.
-#[derive(Drop)]
+#[derive(Clone, Copy)]
 pub enum Found {
     Entry {
         tags: usize,

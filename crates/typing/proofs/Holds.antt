@@ -10,7 +10,7 @@ use lib.Dec.{leb}
 use lib.ListN.{length, take}
 use lib.Seq.{paste, take-length}
 use Rattle.limits.specs.declared.Limits.{Limits}
-use Rattle.answers.specs.Outcome.{Outcome, result, refused, nothing, and_then}
+use Rattle.answers.specs.Outcome.{Outcome, result, refused, and_then}
 use Rattle.answers.specs.Slice.{fitting, long_of, written}
 use Rattle.answers.specs.Answer.{refusal, write_outcome, Filled}
 use Rattle.answers.proofs.Outcome.{refusal_then, refusal_never}

@@ -1,5 +1,7 @@
 // Typing with the sentence still open (document 02, W2): one tag at a time, over the bytes of a table. Each call reads the table, so that
 // it knows whether it is well formed. Time O(b) for b bytes of a table; space is the table's index.
+#![tactic(auto)]
+
 ghost use Rattle.std.specs.Prelude.{◌≡◌, ℕ, ◌+◌, ◌*◌, ◌≤◌, ◌<◌, List, ◌++◌, length, drop};
 ghost use Rattle.limits.specs.Limits.{longest_sentence};
 ghost use Rattle.answers.specs.Answer.{Filled};
@@ -19,7 +21,7 @@ use transduction::{Found, find_entry, put, put_word, read_table};
 use words::wide;
 
 // An open sentence, with any values: the state that its table is in, how many tags were given, and whether it is closed.
-#[derive(Drop)]
+#[derive(Clone, Copy)]
 pub struct Sentence {
     pub state: usize,
     pub given: usize,
@@ -27,14 +29,14 @@ pub struct Sentence {
 }
 
 // Of opening.
-#[derive(Drop)]
+#[derive(Clone, Copy)]
 pub enum Opened {
     Open(Sentence),
     Refused(Refusal),
 }
 
 // Of every other call: the sentence, and how many tags were put out.
-#[derive(Drop)]
+#[derive(Clone, Copy)]
 pub struct Typed {
     pub sentence: Sentence,
     pub answer: WriteAnswer,

@@ -1,4 +1,6 @@
 // The answer of a check as the one number that the function for C gives: 0 for yes, the length of the sentence above a 0 for no, or the refusal.
+#![tactic(auto)]
+
 ghost use Rattle.std.specs.Prelude.{◌≡◌};
 ghost use Rattle.checking.specs.Check.{check_outcome};
 ghost use Rattle.packing.specs.Packed.{packed, Legible};

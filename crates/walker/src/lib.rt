@@ -1,5 +1,7 @@
 // The run of a loaded table over a sentence: its way is walked once, into a buffer, and tested there; then the result is copied to the output
 // slice. Time O(n) for n tags, whatever the table; space n bytes of the stack.
+#![tactic(auto)]
+
 ghost use Rattle.std.specs.Prelude.{◌≤◌, length};
 ghost use Rattle.limits.specs.Limits.{most_tags, InRange};
 ghost use Rattle.sentences.specs.Run.{Ran, Accepted};

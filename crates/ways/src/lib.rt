@@ -1,4 +1,6 @@
 // A sentence's way through a loaded table, walked once: what it puts out goes into a buffer. Time O(n) for n tags, whatever the table.
+#![tactic(auto)]
+
 ghost use Rattle.std.specs.Prelude.{◌≡◌, ◌+◌, ◌≤◌, ◌<◌, map, length, drop, get_or};
 ghost use Rattle.std.proofs.Math.Seq.{paste};
 ghost use Rattle.loaded.specs.Run.{byte_of};

@@ -1,4 +1,6 @@
 // Words of tags: definitions and laws, and what all code over them uses.
+#![tactic(auto)]
+
 ghost use Rattle.std.specs.Prelude.{◌≡◌, ◌<◌, min};
 
 // A tag or another byte as a number.

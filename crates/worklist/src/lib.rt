@@ -2,6 +2,8 @@
 // breadth first with it: the members are visited in their order, and what a visit comes to is entered.
 // The i-th row notes the i-th member, and the row of each number one more than its place in the list, or 0 if it is not there.
 // Time O(n) to begin, O(1) for every other call.
+#![tactic(auto)]
+
 ghost use Rattle.std.specs.Prelude.{◌≡◌, ◌<◌};
 ghost use Rattle.worklist.specs.Worklist.{member_of, mark_of, Slots, Worklist, Begun, Entered, Member};
 

@@ -1,5 +1,5 @@
 -- Regions outside of which nothing was written, one after the other.
-use Prim.Native.Nat.{ℕ, zero, ◌+◌, ◌≤◌, ◌<◌}
+use Prim.Native.Nat.{ℕ, ◌+◌, ◌≤◌, ◌<◌}
 use native.Mathlib.Omega.{arith}
 use Rattle.words.proofs.Word.{below_suc}
 use mathlib.Core.Path.{◌≡◌, refl, ap, ◌∙◌}

@@ -7,7 +7,7 @@ use mathlib.Core.List.{List, [], ◌∷◌, ◌++◌}
 use lib.ListN.{length, get_or, length-append}
 use lib.Seq.{ext_get_or}
 use Rattle.transducers.specs.Tabulate.{tabulate}
-use Rattle.transducers.proofs.Tabulate.{length-tabulate, get_d_tabulate}
+use Rattle.transducers.proofs.Tabulate.{length-tabulate, get_or-tabulate}
 use Rattle.workspace.specs.declared.Grid.{Grid}
 use Rattle.workspace.specs.Cells.{at, word, Inner, Kept, Entry, Cell, Got, Put, Written}
 use Rattle.workspace.proofs.Regions.{kept_then, kept_wider}
@@ -17,7 +17,7 @@ tabulate-same n i f h all =
     ext_get_or 0 (tabulate n i f) (tabulate n i h) (length-tabulate n i f ∙ sym (length-tabulate n i h))
     (λ j lt.
     let b : j < n = omega (arith, length-tabulate n i f) in
-    get_d_tabulate n i j f 0 b ∙ all (i + j) (omega arith) (omega arith) ∙ sym (get_d_tabulate n i j h 0 b))
+    get_or-tabulate n i j f 0 b ∙ all (i + j) (omega arith) (omega arith) ∙ sym (get_or-tabulate n i j h 0 b))
 
 pub tabulate_snoc : (n i : ℕ) (f : ℕ → ℕ) → tabulate (suc n) i f ≡ tabulate n i f ++ (f (i + n) ∷ [])
 tabulate_snoc zero i f = let e : i ≡ i + 0 = omega arith in ap {B = List ℕ} (λ (j : ℕ). f j ∷ []) e
@@ -34,7 +34,7 @@ module _ (g : Grid) where
   unfolding word
   word_at W r c s i h =
       let e : suc s + i ≡ s + i + 1 = omega arith in
-      get_d_tabulate (at g W r c s) (suc s) i (at g W r c) 0 h ∙ ap (at g W r c) e
+      get_or-tabulate (at g W r c s) (suc s) i (at g W r c) 0 h ∙ ap (at g W r c) e
 
   -- a word whose entries stay stays
   pub word_kept : (P : ℕ → ℕ → ℕ → Type 0) (W X : List ℕ) → Kept g W X P → (r c s : ℕ) → c < g.tags + 1 → s + at g W r c s < g.depth

@@ -1,4 +1,6 @@
 // The lent slice of 16-bit numbers as rows of cells of entries.
+#![tactic(auto)]
+
 ghost use Rattle.std.specs.Prelude.{◌≡◌, ◌+◌, ◌*◌, ◌^◌, ◌≤◌, ◌<◌, [], ◌∷◌, ◌++◌, false, length, drop, take};
 ghost use Rattle.words.specs.Front.{meet};
 ghost use Rattle.workspace.specs.Cells.{ix, at, word, Sized, In, Inner, Got, Put, Cleared, Written, part};
@@ -29,7 +31,7 @@ pub const MARK: usize = 5;
 pub const FINAL: usize = 7;
 
 // Each row has a cell for every tag and one more.
-#[derive(Drop)]
+#[derive(Clone, Copy)]
 pub struct Grid {
     pub rows: usize,
     pub tags: usize,

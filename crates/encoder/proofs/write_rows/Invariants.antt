@@ -1,0 +1,13 @@
+use Prim.Native.Nat.{◌+◌, ◌-◌, ◌≤◌}
+use mathlib.Core.Path.{◌≡◌}
+use lib.ListN.{length}
+use Rattle.tables.specs.Bytes.{row_bytes}
+use Rattle.encoder.specs.Encoding.{BytesWritten, row_in}
+use Rattle.encoder.proofs.Encoding.{first_parts}
+use Rattle.encoder.proofs.write_rows.Given as goal
+
+abbrev pub invariant-loop-q : goal.invariant-loop-q
+invariant-loop-q l = (l.q ≤ l.n) × (length l.out ≡ length l.initial.out) × BytesWritten l.initial.out l.out l.from (first_parts row_bytes (λ k. row_in l.g l.work (l.base + k)) l.q) l.to
+
+abbrev pub decreases-loop-q : goal.decreases-loop-q
+decreases-loop-q l = l.n - l.q
