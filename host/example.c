@@ -14,8 +14,7 @@
 #define SYNOPSIS \
     "usage: example [-c CEILING] [-e END] BOOK [TAG ...]\n" \
     "       example [-c CEILING] [-e END] -t BOOK\n" \
-    "       example [-e END] -r BOOK [TAG ...]\n" \
-    "       example [-e END] -k TABLE BOOK\n"
+    "       example [-e END] -r BOOK [TAG ...]\n"
 #define NOT_A_TAG "not a tag, a number from 0 to 255"
 
 /* Exit statuses, the worse the greater; a function of type int answers one where nothing else is said. */
@@ -24,6 +23,7 @@ enum { LONGEST_WORD = 20 };
 
 static const char usage[] =
     SYNOPSIS
+    "       example [-e END] -k TABLE BOOK\n"
     "       example --help | -h\n"
     "\n"
     "Compiles a book of tag rules to its smallest table, and runs the table over a sentence,\n"

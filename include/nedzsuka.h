@@ -65,8 +65,8 @@
 #include <stdint.h>
 
 /* The version, in words and as 10,000 * major + 100 * minor + patch. */
-#define NEDZSUKA_VERSION "0.9.0"
-#define NEDZSUKA_VERSION_NUMBER 900
+#define NEDZSUKA_VERSION "0.8.0"
+#define NEDZSUKA_VERSION_NUMBER 800
 
 #ifdef __cplusplus
 extern "C" {
@@ -435,7 +435,6 @@ static inline const char *nedzsuka_in_words(unsigned refusal)
         "a limit is outside its range: 1 to 8 tags in a pattern, 1 to 16 rules, 2 to 48 for the greatest number of tags",
         "a set of tags has fewer than two",
         "a set of tags stands at the place that the rule changes, or after it",
-        "the table is over another number of tags than the book",
     };
 
     return refusal < sizeof words / sizeof *words ? words[refusal] : "unknown refusal";

@@ -4,7 +4,8 @@
 usage: tools/respell.py [ROOT]     once, after the toolchain's port.py, at the top of the repository or of a copy of it
 
 respell.tsv beside this script has a row for each name: old, a tab, new, and after another tab a path if the name turns in that file alone.
-Each name turns where it stands as a whole word, in the .antt and .rt files of crates/, and in README.md and docs/ between backquotes.
+Each name turns where it stands as a whole word, in the .antt and .rt files of crates/, and in README.md and docs/ between backquotes. A lemma that gets
+_lem turns in .antt files alone: in a .rt file the word is a function of that name.
 """
 
 import os
@@ -41,6 +42,8 @@ def main(root):
     everywhere, alone = rows()
     for path in files(root):
         table = {**everywhere, **alone.get(os.path.relpath(path, root), {})}
+        if not path.endswith(".antt"):
+            table = {old: new for old, new in table.items() if not new.endswith("_lem")}
         with open(path, encoding="utf-8") as f:
             text = f.read()
         turn = lambda t: WORD.sub(lambda m: table.get(m.group(), m.group()), t)
