@@ -8,7 +8,7 @@ ghost use Rattle.addition.specs.Addition.{Addable, Added};
 
 use cascades::Rule;
 use limits::PATTERN;
-use workspace::Grid;
+use workspace::{Grid, Part};
 
 // Adds the rule with the sets of row i to the table in the first n rows: the number of states. The table with the rule stands in the rows from 0 if they are no
 // more than the ceiling. The composition is made in the rows from the ceiling, and there is room for it up to the rule's transducer, which has
@@ -31,7 +31,12 @@ pub fn add_rule(
     let second = (s + 1) * ceiling;
     let m = onerule::write_rule(work, g, second, rule, sets, i, end);
     let count = compose::compose(work, g, 0, n, second, m, ceiling);
-    normalize::normalize(work, g, ceiling, count);
-    merge::merge(work, g, ceiling, count);
-    number::number(work, g, ceiling, count, 0, ceiling)
+    let part = Part {
+        grid: g,
+        base: ceiling,
+        states: count,
+    };
+    normalize::normalize(work, part);
+    merge::merge(work, part);
+    number::number(work, part, 0, ceiling)
 }

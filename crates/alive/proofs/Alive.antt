@@ -2,34 +2,24 @@
 use Prim.Native.Nat.{ℕ, zero, suc, ◌+◌, ◌-◌, ◌*◌, ◌%◌, ◌^◌, ◌≤◌, ◌<◌}
 use native.Mathlib.Omega.{arith}
 use native.Mathlib.Nat.{pow-suc}
-use native.Mathlib.Decide.{dec_lt, ℕ_discrete}
+use native.Mathlib.Decide.{dec_lt}
 use native.Mathlib.Numerals.{add-one}
 use mathlib.Core.Path.{◌≡◌, sym, ap, ◌∙◌}
 use mathlib.Core.List.{List, [], ◌∷◌}
-use borrow.Author.Tests.{eq-eqb, ne_eqb}
-use lib.Bits.{bit_and, bit_or, and_le_l, and_le_r, or_shifted, or_shifted_r}
+use lib.Bits.{bit_or, and_le_l, and_le_r, or_shifted_r}
 use lib.Count.{count_leading_zeros, leading_length}
 use lib.ListN.{length, set, take, drop, get_or, length-drop}
 use lib.Pow.{pow_mono, shl_exact}
-use lib.Seq.{get_or-set_same, get_or-set_other, take_all, length-take-le}
+use lib.Seq.{take_all, length-take-le}
 use Rattle.limits.specs.Limits.{most_tags}
 use Rattle.cascades.specs.Pattern.{Class, accepts}
-use Rattle.cascades.specs.Rule.{Kind}
 use Rattle.cascades.specs.Value.{class_of, places}
 use Rattle.cascades.proofs.Pattern.{places-length, places-at}
-use Rattle.minimal.specs.Bits.{accepting, width, alive_fired}
+use Rattle.minimal.specs.Bits.{accepting, width}
 use Rattle.minimal.proofs.Bits.{accepting-below, width-below, below-width}
-use Rattle.alive.specs.Alive.{bit, Masks, Narrow, stepped, Longest, leads}
+use Rattle.alive.specs.Alive.{bit, Masks, Narrow, stepped, Longest}
 
 -- ---- shifts
-
-pub one_shifted : (n : ℕ) → n < 8 → 1 * 2 ^ n % 2 ^ 16 ≡ 2 ^ n
-one_shifted n h = shl_exact 1 n 16 (omega arith) (omega arith) ∙ (omega arith)
-
-pub stepped-is : (s mask : ℕ) → s < 2 ^ 15 → bit_and (bit_or (s * 2 ^ 1 % 2 ^ 16) 1) mask ≡ stepped s mask
-stepped-is s mask h =
-    let twice : s * 2 + 1 ≡ 2 * s + 1 = omega arith in
-    ap (λ (x : ℕ). bit_and (bit_or x 1) mask) (shl_exact 15 1 16 h (omega arith)) ∙ ap (λ (x : ℕ). bit_and x mask) (or_shifted s 1 1 (omega arith) ∙ twice)
 
 pub bit-put : (mask j : ℕ) → mask < 2 ^ j → j < 8 → bit_or mask (1 * 2 ^ j % 2 ^ 16) ≡ mask + 1 * 2 ^ j
 bit-put mask j h l = ap (bit_or mask) (shl_exact 1 j 16 (omega arith) (omega arith)) ∙ or_shifted_r 1 j mask h ∙ (omega arith)
@@ -84,34 +74,7 @@ stepped-longest n s mask h =
     let w = width n s in
     omega (arith, width-below n (suc w) (stepped s mask) (omega (arith, and_le_l (2 * s + 1) mask, below-width n s h, pow-suc 2 w)))
 
--- ---- where a step leads
-
-module _ (k : Kind) (n e s next a : ℕ) where
-  pub leads-end : a ≡ e → 0 ≡ leads k n e s next a
-  leads-end f = cc (eq-eqb a e f)
-
-  module _ (other : a ≡ e → ⊥) where
-    pub leads-same : width n s ≡ n → s ≡ leads k n e s next a
-    leads-same f = cc (ne_eqb a e other, eq-eqb (width n s) n f)
-
-    module _ (short : width n s ≡ n → ⊥) where
-      pub leads-fired : width n next ≡ n → alive_fired k n ≡ leads k n e s next a
-      leads-fired f = cc (ne_eqb a e other, ne_eqb (width n s) n short, eq-eqb (width n next) n f)
-
-      pub leads-next : (width n next ≡ n → ⊥) → next ≡ leads k n e s next a
-      leads-next f = cc (ne_eqb a e other, ne_eqb (width n s) n short, ne_eqb (width n next) n f)
-
 -- ---- the masks, tag by tag
-
-pub masks_none : (P : List Class) (masks : List ℕ) → Masks P 0 masks
-masks_none P masks = record { entry = λ a h. absurd (omega arith) }
-
-pub masks_next : (P : List Class) (masks : List ℕ) (a mask : ℕ) → a < length masks → mask ≡ accepting P a → Masks P a masks → Masks P (a + 1) (set masks a mask)
-masks_next P masks a mask l is m = record { entry = λ b h. by b h (ℕ_discrete b a) }
-  where
-    by : (b : ℕ) → b < a + 1 → Dec (b ≡ a) → get_or (set masks a mask) b 0 ≡ accepting P b
-    by b h (yes e) = ap (λ (i : ℕ). get_or (set masks a mask) i 0) e ∙ get_or-set_same masks a mask 0 l ∙ is ∙ ap (accepting P) (sym e)
-    by b h (no d) = get_or-set_other masks a b mask 0 d ∙ m.entry b (omega arith)
 
 pub masks_narrow : (P : List Class) (n k : ℕ) (masks : List ℕ) → length P ≡ n → k ≤ most_tags → Masks P k masks → Narrow n k masks
 masks_narrow P n k masks long few m =

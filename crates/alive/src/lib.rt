@@ -13,13 +13,6 @@ ghost use Rattle.alive.specs.Alive.{bit, Masks, stepped, Longest, leads};
 use cascades::{accepts, set_at};
 use limits::{PATTERN, TAGS};
 
-// A state's number.
-pub fn wide(x: u16) -> usize
-    ensures { (result ≡ x) × (result < 0x10000) }
-{
-    x as usize
-}
-
 // A mask of the first j places, and the bit of the place j where that accepts the tag.
 fn with_place(mask: u16, j: usize, accepted: bool) -> u16
     requires { (mask < 2 ^ j) × (j < longest_pattern) }
@@ -37,11 +30,9 @@ fn mask_of(u: &[u8], sets: &[u64; PATTERN], n: usize, a: u8) -> u16
     ensures { result ≡ accepting (places u.now (take n sets.now)) a }
 {
     let mut mask = 0;
-    let mut j = 0;
-    while j < u.len() {
+    for (j, tag) in u.iter().enumerate() {
         let set = set_at(sets, n, j);
-        mask = with_place(mask, j, accepts(u[j], set, a));
-        j += 1;
+        mask = with_place(mask, j, accepts(*tag, set, a));
     }
     mask
 }
@@ -52,10 +43,8 @@ pub fn masks_of(u: &[u8], sets: &[u64; PATTERN], n: usize, tags: usize) -> [u16;
     ensures { Masks (places u.now (take n sets.now)) tags result }
 {
     let mut masks = [0; TAGS];
-    let mut a = 0;
-    while a < tags {
+    for a in 0..tags {
         masks[a] = mask_of(u, sets, n, a as u8);
-        a += 1;
     }
     masks
 }
@@ -72,7 +61,7 @@ pub fn step(alive: u16, mask: u16) -> u16
 pub fn longest(alive: u16) -> usize
     ensures { Longest alive result }
 {
-    (16 - u16::leading_zeros(alive)) as usize
+    (u16::BITS - alive.leading_zeros()) as usize
 }
 
 // How many states the transducer has where the pattern has n places: the sets of matched lengths below n, and one behind a match, unless the rule

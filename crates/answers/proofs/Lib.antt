@@ -1,3 +1,4 @@
 -- Laws of answers.
 pub mod Outcome
 pub mod Slice
+pub mod Answer

@@ -10,7 +10,7 @@ use Rattle.answers.specs.Slice.{long_of, written}
 use Rattle.answers.specs.Answer.{refusal, Filled}
 use Rattle.answers.specs.declared.Refusal.{Refusal}
 use Rattle.answers.specs.declared.Refusal.TheVariants.{AtByte, AtRule, Bare}
-use Rattle.answers.specs.declared.WriteAnswer.TheVariants.{Written, Refused}
+use Rattle.std.specs.Prelude.{Ok, Err}
 
 -- without a result the slice keeps what it holds
 pub refused_keeps : (o : Outcome (List ℕ)) (before : List ℕ) → ((made : List ℕ) → o ≡ result made → ⊥) → written o before ≡ before
@@ -29,11 +29,11 @@ long-rule j i (result bytes) e = let z : ◌≡◌ {A = ℕ} 0 1 = cc in absurd 
 long-rule j i (refused k p) e = cc
 
 -- how calls end that write to their output slice
-pub filled-refused : (o : Outcome (List ℕ)) (out : List ℕ) (r : Refusal) → o ≡ refusal r → Filled o out out (Refused r)
+pub filled-refused : (o : Outcome (List ℕ)) (out : List ℕ) (r : Refusal) → o ≡ refusal r → Filled o out out (Err r)
 filled-refused o out (AtByte n i) e = record { answered = cc; wrote = cc }
 filled-refused o out (AtRule n i) e = record { answered = cc; wrote = cc }
 filled-refused o out (Bare n) e = record { answered = cc; wrote = cc }
 
 pub filled-written : (o : Outcome (List ℕ)) (w out out' : List ℕ) (n : ℕ) → o ≡ result w → n ≡ length w → out' ≡ w ++ drop (length w) out
-    → Filled o out out' (Written n)
+    → Filled o out out' (Ok n)
 filled-written o w out out' n e long all = record { answered = cc; wrote = cc }

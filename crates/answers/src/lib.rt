@@ -1,31 +1,47 @@
-// What public calls answer. specs/Answer.antt says which outcome of document 01 each case is.
+// What public calls answer: a result or a refusal. specs/Answer.antt says which outcome of document 01 each case is.
 #![tactic(auto)]
+
+ghost use Rattle.std.specs.Prelude.{◌≡◌};
+ghost use Rattle.answers.specs.Answer.{number_of};
+
+// Why a call is refused, by the number that document 01 or 02 gives.
+#[derive(Clone, Copy, Debug, PartialEq, Eq)]
+pub enum Reason {
+    BadCommand = 1,
+    BadTagCount,
+    BadPattern,
+    BadTag,
+    BadPlace,
+    SameTag,
+    TooManyRules,
+    BadCeiling,
+    ShortWork,
+    TooManyStates,
+    ShortOutput,
+    BadTable,
+    LongSentence,
+    BadEnd,
+    Closed,
+    BadState,
+    BadLimit,
+    SmallSet,
+    LateSet,
+    OtherTags,
+}
+
+// The number of a refusal.
+impl From<Reason> for u8 {
+    ghost from_gives = { λ reason n. n ≡ number_of reason };
+
+    fn from(reason: Reason) -> u8 {
+        reason as u8
+    }
+}
 
 // "a refusal that names the byte, the rule or nothing"
 #[derive(Clone, Copy)]
 pub enum Refusal {
-    AtByte { number: u8, byte: usize },
-    AtRule { number: u8, rule: usize },
-    Bare { number: u8 },
-}
-
-// Of a run: the number of changed tags.
-#[derive(Clone, Copy)]
-pub enum RunAnswer {
-    Changed(usize),
-    Refused(Refusal),
-}
-
-// Of a call that writes to its output slice, loading a table or typing: how many numbers were written.
-#[derive(Clone, Copy)]
-pub enum WriteAnswer {
-    Written(usize),
-    Refused(Refusal),
-}
-
-// Of compile: the number of bytes of the table.
-#[derive(Clone, Copy)]
-pub enum CompileAnswer {
-    Table(usize),
-    Refused(Refusal),
+    AtByte(Reason, usize),
+    AtRule(Reason, usize),
+    Bare(Reason),
 }

@@ -13,124 +13,81 @@ ghost use Rattle.endings.specs.Usable.{Usable};
 ghost use Rattle.traces.specs.Trace.{beside, trace_from, numbers_of};
 ghost use Rattle.application.specs.Pieces.{FirstPiece};
 
-use books::HEAD;
-use limits::{NO_END, PATTERN, RULES};
-use words::lesser;
+use books::Rules;
+use limits::{NO_END, PATTERN};
 
 // The rules of the arrays from `from` on and before m, which have no sets, applied to s in order, and their numbers.
 pub fn apply_tags(
     s: &mut [u8],
     v: &mut [u8],
-    rows: &[[u8; PATTERN]; RULES],
-    lengths: &[usize; RULES],
-    heads: &[[u8; HEAD]; RULES],
+    rules: &Rules,
     sets: &[[u64; PATTERN]],
     from: usize,
     m: usize,
 )
-    requires { Usable m (arrays rows lengths heads sets.now) × (from ≤ m) × ((i : ℕ) → from ≤ i → i < m → sets_at (arrays rows lengths heads sets.now) i ≡ 0) }
-    ensures s { s.new ≡ apply_all (drop from (rules_of (arrays rows.entry lengths.entry heads.entry sets.now) m)) s.old }
-    ensures v { v.new ≡ (trace_from (from + 1) (drop from (rules_of (arrays rows.entry lengths.entry heads.entry sets.now) m)) (beside s.old v.old)).numbers }
+    requires { Usable m (arrays rules.now sets.now) × (from ≤ m) × ((i : ℕ) → from ≤ i → i < m → sets_at (arrays rules.now sets.now) i ≡ 0) }
+    ensures s { s.new ≡ apply_all (drop from (rules_of (arrays rules.now sets.now) m)) s.old }
+    ensures v { v.new ≡ (trace_from (from + 1) (drop from (rules_of (arrays rules.now sets.now) m)) (beside s.old v.old)).numbers }
 {
-    let mut i = from;
-    while i < m {
-        let rule = reader::rule_at(rows, lengths, heads, sets, i);
-        let number = i + 1;
-        rewriting::apply_tags(s, v, rule, number as u8);
-        i = number;
+    for i in from..m {
+        let rule = reader::rule_at(rules, sets, i);
+        rewriting::apply_tags(s, v, rule, (i + 1) as u8);
     }
 }
 
 // The first m rules, which may have sets: those before the last, then the last. It calls itself so that it stays a call: in the place of the call,
 // its search would take the registers of what goes on there.
-fn apply_sets(
-    s: &mut [u8],
-    v: &mut [u8],
-    rows: &[[u8; PATTERN]; RULES],
-    lengths: &[usize; RULES],
-    heads: &[[u8; HEAD]; RULES],
-    sets: &[[u64; PATTERN]],
-    m: usize,
-)
-    requires { Usable m (arrays rows lengths heads sets.now) × (length sets.now ≡ most_rules) }
-    ensures s { s.new ≡ apply_all (rules_of (arrays rows.entry lengths.entry heads.entry sets.now) m) s.old }
-    ensures v { v.new ≡ (trace_from 1 (rules_of (arrays rows.entry lengths.entry heads.entry sets.now) m) (beside s.old v.old)).numbers }
+fn apply_sets(s: &mut [u8], v: &mut [u8], rules: &Rules, sets: &[[u64; PATTERN]], m: usize)
+    requires { Usable m (arrays rules.now sets.now) × (length sets.now ≡ most_rules) }
+    ensures s { s.new ≡ apply_all (rules_of (arrays rules.now sets.now) m) s.old }
+    ensures v { v.new ≡ (trace_from 1 (rules_of (arrays rules.now sets.now) m) (beside s.old v.old)).numbers }
 {
     if m == 0 {
         return;
     }
     let last = m - 1;
-    apply_sets(s, v, rows, lengths, heads, sets, last);
-    let rule = reader::rule_at(rows, lengths, heads, sets, last);
+    apply_sets(s, v, rules, sets, last);
+    let rule = reader::rule_at(rules, sets, last);
     if rule.sets == 0 {
-        apply_tags(s, v, rows, lengths, heads, sets, last, m);
+        apply_tags(s, v, rules, sets, last, m);
     } else {
         rewriting::apply_sets(s, v, rule, &sets[last], m as u8);
     }
 }
 
 // The first m rules of the arrays, applied to s in order, and their numbers.
-fn apply_rules(
-    s: &mut [u8],
-    v: &mut [u8],
-    rows: &[[u8; PATTERN]; RULES],
-    lengths: &[usize; RULES],
-    heads: &[[u8; HEAD]; RULES],
-    sets: &[[u64; PATTERN]],
-    m: usize,
-)
-    requires { Usable m (arrays rows lengths heads sets.now) }
-    ensures s { s.new ≡ apply_all (rules_of (arrays rows.entry lengths.entry heads.entry sets.now) m) s.old }
-    ensures v { v.new ≡ (trace_from 1 (rules_of (arrays rows.entry lengths.entry heads.entry sets.now) m) (beside s.old v.old)).numbers }
+fn apply_rules(s: &mut [u8], v: &mut [u8], rules: &Rules, sets: &[[u64; PATTERN]], m: usize)
+    requires { Usable m (arrays rules.now sets.now) }
+    ensures s { s.new ≡ apply_all (rules_of (arrays rules.now sets.now) m) s.old }
+    ensures v { v.new ≡ (trace_from 1 (rules_of (arrays rules.now sets.now) m) (beside s.old v.old)).numbers }
 {
     if sets.len() == 0 {
-        apply_tags(s, v, rows, lengths, heads, sets, 0, m);
+        apply_tags(s, v, rules, sets, 0, m);
     } else {
-        apply_sets(s, v, rows, lengths, heads, sets, m);
-    }
-}
-
-// 0 in every place.
-fn clear(v: &mut [u8])
-    ensures { v.new ≡ replicate (length v.old) 0 }
-{
-    let mut i = 0;
-    while i < v.len() {
-        v[i] = 0;
-        i += 1;
+        apply_sets(s, v, rules, sets, m);
     }
 }
 
 // The same as apply_rules, where no tag has a number at first.
-fn apply_afresh(
-    s: &mut [u8],
-    v: &mut [u8],
-    rows: &[[u8; PATTERN]; RULES],
-    lengths: &[usize; RULES],
-    heads: &[[u8; HEAD]; RULES],
-    sets: &[[u64; PATTERN]],
-    m: usize,
-)
-    requires { Usable m (arrays rows lengths heads sets.now) }
-    ensures s { s.new ≡ apply_all (rules_of (arrays rows.entry lengths.entry heads.entry sets.now) m) s.old }
-    ensures v { v.new ≡ (trace_from 1 (rules_of (arrays rows.entry lengths.entry heads.entry sets.now) m) (beside s.old (replicate (length v.old) 0))).numbers }
+fn apply_afresh(s: &mut [u8], v: &mut [u8], rules: &Rules, sets: &[[u64; PATTERN]], m: usize)
+    requires { Usable m (arrays rules.now sets.now) }
+    ensures s { s.new ≡ apply_all (rules_of (arrays rules.now sets.now) m) s.old }
+    ensures v { v.new ≡ (trace_from 1 (rules_of (arrays rules.now sets.now) m) (beside s.old (replicate (length v.old) 0))).numbers }
 {
-    clear(v);
-    apply_rules(s, v, rows, lengths, heads, sets, m);
+    v.fill(0);
+    apply_rules(s, v, rules, sets, m);
 }
 
 // How long the first piece is: up to an end tag with it, or all.
 fn first_piece(s: &[u8], end: u8) -> usize
     ensures { FirstPiece s.now end result }
 {
-    let mut i = 0;
-    while i < s.len() {
-        if s[i] == end {
+    for (i, a) in s.iter().enumerate() {
+        if *a == end {
             return i + 1;
         }
-        i += 1;
     }
-    i
+    s.len()
 }
 
 // The rules to the first piece, and how long it is.
@@ -138,20 +95,18 @@ fn apply_first(
     s: &mut [u8],
     v: &mut [u8],
     end: u8,
-    rows: &[[u8; PATTERN]; RULES],
-    lengths: &[usize; RULES],
-    heads: &[[u8; HEAD]; RULES],
+    rules: &Rules,
     sets: &[[u64; PATTERN]],
     m: usize,
 ) -> usize
-    requires { Usable m (arrays rows lengths heads sets.now) }
-    ensures s { Begun (piecewise end (apply_all (rules_of (arrays rows.entry lengths.entry heads.entry sets.now) m))) (piecewise end (apply_all (rules_of (arrays rows.entry lengths.entry heads.entry sets.now) m))) s.old s.new s.new result }
-    ensures v { length v.old ≡ length s.old → Begun (piecewise end (numbers_of (rules_of (arrays rows.entry lengths.entry heads.entry sets.now) m))) (piecewise end (numbers_of (rules_of (arrays rows.entry lengths.entry heads.entry sets.now) m))) s.old s.new v.new result }
+    requires { Usable m (arrays rules.now sets.now) }
+    ensures s { Begun (piecewise end (apply_all (rules_of (arrays rules.now sets.now) m))) (piecewise end (apply_all (rules_of (arrays rules.now sets.now) m))) s.old s.new s.new result }
+    ensures v { length v.old ≡ length s.old → Begun (piecewise end (numbers_of (rules_of (arrays rules.now sets.now) m))) (piecewise end (numbers_of (rules_of (arrays rules.now sets.now) m))) s.old s.new v.new result }
     ensures some { 0 < length s.old → 0 < result }
 {
     let n = first_piece(s, end);
-    let noted = lesser(n, v.len());
-    apply_afresh(&mut s[..n], &mut v[..noted], rows, lengths, heads, sets, m);
+    let noted = n.min(v.len());
+    apply_afresh(&mut s[..n], &mut v[..noted], rules, sets, m);
     n
 }
 
@@ -160,29 +115,18 @@ fn apply_pieces(
     s: &mut [u8],
     v: &mut [u8],
     end: u8,
-    rows: &[[u8; PATTERN]; RULES],
-    lengths: &[usize; RULES],
-    heads: &[[u8; HEAD]; RULES],
+    rules: &Rules,
     sets: &[[u64; PATTERN]],
     m: usize,
 )
-    requires { Usable m (arrays rows lengths heads sets.now) }
-    ensures s { s.new ≡ piecewise end (apply_all (rules_of (arrays rows.entry lengths.entry heads.entry sets.now) m)) s.old }
-    ensures v { length v.old ≡ length s.old → v.new ≡ piecewise end (numbers_of (rules_of (arrays rows.entry lengths.entry heads.entry sets.now) m)) s.old }
+    requires { Usable m (arrays rules.now sets.now) }
+    ensures s { s.new ≡ piecewise end (apply_all (rules_of (arrays rules.now sets.now) m)) s.old }
+    ensures v { length v.old ≡ length s.old → v.new ≡ piecewise end (numbers_of (rules_of (arrays rules.now sets.now) m)) s.old }
 {
     let mut from = 0;
     while from < s.len() {
-        let noted = lesser(from, v.len());
-        from += apply_first(
-            &mut s[from..],
-            &mut v[noted..],
-            end,
-            rows,
-            lengths,
-            heads,
-            sets,
-            m,
-        );
+        let noted = from.min(v.len());
+        from += apply_first(&mut s[from..], &mut v[noted..], end, rules, sets, m);
     }
 }
 
@@ -192,20 +136,18 @@ pub fn apply_book(
     s: &mut [u8],
     v: &mut [u8],
     end: u8,
-    rows: &[[u8; PATTERN]; RULES],
-    lengths: &[usize; RULES],
-    heads: &[[u8; HEAD]; RULES],
+    rules: &Rules,
     sets: &[[u64; PATTERN]],
     m: usize,
 )
-    requires usable { Usable m (arrays rows lengths heads sets.now) }
+    requires usable { Usable m (arrays rules.now sets.now) }
     requires below { Below no_end s.old }
-    ensures s { s.new ≡ piecewise end (apply_all (rules_of (arrays rows.entry lengths.entry heads.entry sets.now) m)) s.old }
-    ensures v { length v.old ≡ length s.old → v.new ≡ piecewise end (numbers_of (rules_of (arrays rows.entry lengths.entry heads.entry sets.now) m)) s.old }
+    ensures s { s.new ≡ piecewise end (apply_all (rules_of (arrays rules.now sets.now) m)) s.old }
+    ensures v { length v.old ≡ length s.old → v.new ≡ piecewise end (numbers_of (rules_of (arrays rules.now sets.now) m)) s.old }
 {
     if end == NO_END {
-        apply_afresh(s, v, rows, lengths, heads, sets, m);
+        apply_afresh(s, v, rules, sets, m);
     } else {
-        apply_pieces(s, v, end, rows, lengths, heads, sets, m);
+        apply_pieces(s, v, end, rules, sets, m);
     }
 }

@@ -17,7 +17,10 @@ use Rattle.cascades.specs.Value.{kind_of, rule_with, places, last_set}
 use Rattle.cascades.proofs.Pattern.{word-plain, plain-none, places-length, places-plain, last_none, some-from, none_from, last-zero}
 use Rattle.books.specs.Book.{opener}
 use Rattle.books.specs.Read.{closing, opened}
-use Rattle.books.specs.Arrays.{Arrays, holding, Shaped, place_at, tag_at, sets_at, row_at, rule_at, rules_down, rules_of, SetRows}
+use Rattle.books.specs.Arrays.{Arrays, holding, no_head, Shaped, place_at, tag_at, sets_at, row_at, rule_at, rules_down, rules_of, SetRows}
+use Rattle.books.specs.declared.Head.{Head}
+use Rattle.answers.specs.declared.Reason.TheVariants.{BadPattern, BadPlace, LateSet, SameTag}
+use Rattle.std.specs.Prelude.{Ok, Err}
 use Rattle.books.specs.Resume.{with_tags, Placed, faulted}
 use Rattle.books.proofs.Step.{opener-kind}
 use Rattle.books.proofs.Some.{none_of}
@@ -67,21 +70,21 @@ module _ (a : Arrays) (h : Shaped a) (m : ℕ) (few : m ≤ most_rules) (some : 
   last-long : length last.pattern ≡ get_or a.lengths (m - 1) 0
   last-long = pattern-long a h (m - 1) (omega arith)
 
-  pub closing-empty : get_or a.lengths (m - 1) 0 ≡ 0 → closing (rules_down a m) ≡ faulted 3
+  pub closing-empty : get_or a.lengths (m - 1) 0 ≡ 0 → closing (rules_down a m) ≡ faulted (Err BadPattern)
   closing-empty e = cc (down-last a m some, le-ltb 0 (length last.pattern) (omega (arith, last-long)))
 
   module _ (long : get_or a.lengths (m - 1) 0 ≡ 0 → ⊥) where
     tagged : ltb 0 (length last.pattern) ≡ true
     tagged = lt-ltb 0 (length last.pattern) (omega (arith, last-long, long))
 
-    pub closing_outside : get_or a.lengths (m - 1) 0 ≤ at → closing (rules_down a m) ≡ faulted 5
+    pub closing_outside : get_or a.lengths (m - 1) 0 ≤ at → closing (rules_down a m) ≡ faulted (Err BadPlace)
     closing_outside p = cc (down-last a m some, tagged, le-ltb at (length last.pattern) (omega (arith, last-long)))
 
     module _ (inside : at < get_or a.lengths (m - 1) 0) where
       within : ltb at (length last.pattern) ≡ true
       within = lt-ltb at (length last.pattern) (omega (arith, last-long))
 
-      pub closing-set : at < sets_at a (m - 1) → closing (rules_down a m) ≡ faulted 19
+      pub closing-set : at < sets_at a (m - 1) → closing (rules_down a m) ≡ faulted (Err LateSet)
       closing-set l =
           cc (down-last a m some, tagged, within, some-from last.pattern at (omega (arith, h.last_is (m - 1) (omega arith))))
 
@@ -94,11 +97,11 @@ module _ (a : Arrays) (h : Shaped a) (m : ℕ) (few : m ≤ most_rules) (some : 
             ap (λ (w : List ℕ). get_or w at 0) (h.word_is (m - 1) (omega arith))
             ∙ get_or-take (get_or a.lengths (m - 1) 0) (get_or a.rows (m - 1) []) at 0 inside
 
-        pub closing_same : get_or (get_or a.rows (m - 1) []) at 0 ≡ tag_at a (m - 1) → closing (rules_down a m) ≡ faulted 6
+        pub closing_same : get_or (get_or a.rows (m - 1) []) at 0 ≡ tag_at a (m - 1) → closing (rules_down a m) ≡ faulted (Err SameTag)
         closing_same e =
             cc (down-last a m some, tagged, within, free, eq-eqb (get_or (word last.pattern) at 0) (tag_at a (m - 1)) (there ∙ e))
 
-        pub closing-none : (get_or (get_or a.rows (m - 1) []) at 0 ≡ tag_at a (m - 1) → ⊥) → closing (rules_down a m) ≡ faulted 0
+        pub closing-none : (get_or (get_or a.rows (m - 1) []) at 0 ≡ tag_at a (m - 1) → ⊥) → closing (rules_down a m) ≡ faulted (Ok tt)
         closing-none d =
             cc (down-last a m some, tagged, within, free, ne_eqb (get_or (word last.pattern) at 0) (tag_at a (m - 1)) (λ e. d (sym there ∙ e)))
 
@@ -127,30 +130,28 @@ set-short l i v n hv h j = at (ℕ_discrete j i) (dec_lt i (length l))
     at (no d) f = rw (get_or-set_other l i j v 0 d) (h j)
 
 -- the arrays after the rule i has been written
-abbrev pub put : Arrays → ℕ → List ℕ → ℕ → List ℕ → List ℕ → Arrays
+abbrev pub put : Arrays → ℕ → List ℕ → ℕ → Head → List ℕ → Arrays
 put a i row n head sets = holding (set a.rows i row) (set a.lengths i n) (set a.heads i head) (set a.sets i sets)
 
 -- the pattern that it has got
-abbrev put-pattern : Arrays → ℕ → List ℕ → ℕ → List ℕ → List ℕ → List Class
-put-pattern a i row n head sets = places (take n row) (take (get_or head 3 0) (get_or (set a.sets i sets) i []))
+abbrev put-pattern : Arrays → ℕ → List ℕ → ℕ → Head → List ℕ → List Class
+put-pattern a i row n head sets = places (take n row) (take head.sets (get_or (set a.sets i sets) i []))
 
-record Fits (a : Arrays) (i : ℕ) (row : List ℕ) (n : ℕ) (head sets : List ℕ) : Type 0 where
+record Fits (a : Arrays) (i : ℕ) (row : List ℕ) (n : ℕ) (head : Head) (sets : List ℕ) : Type 0 where
   row_long : length row ≡ longest_pattern
   short : n ≤ longest_pattern
-  head_long : length head ≡ 4
   set_long : i < length a.sets → length sets ≡ longest_pattern
-  few : get_or head 3 0 ≤ length (get_or (set a.sets i sets) i [])
-  last_is : last_set (put-pattern a i row n head sets) ≡ get_or head 3 0
+  few : head.sets ≤ length (get_or (set a.sets i sets) i [])
+  last_is : last_set (put-pattern a i row n head sets) ≡ head.sets
   word_is : word (put-pattern a i row n head sets) ≡ take n row
 
 -- a rule without a set
-plain_fits : (a : Arrays) (i : ℕ) (row : List ℕ) (n : ℕ) (head sets : List ℕ) → length row ≡ longest_pattern → n ≤ longest_pattern → length head ≡ 4
-    → (i < length a.sets → length sets ≡ longest_pattern) → get_or head 3 0 ≡ 0 → Fits a i row n head sets
-plain_fits a i row n head sets long short four rows none =
+plain_fits : (a : Arrays) (i : ℕ) (row : List ℕ) (n : ℕ) (head : Head) (sets : List ℕ) → length row ≡ longest_pattern → n ≤ longest_pattern
+    → (i < length a.sets → length sets ≡ longest_pattern) → head.sets ≡ 0 → Fits a i row n head sets
+plain_fits a i row n head sets long short rows none =
     record {
       row_long = long;
       short = short;
-      head_long = four;
       set_long = rows;
       few = omega (arith, none);
       last_is = ap last_set plain-is ∙ last_none (plain (take n row)) (plain-none (take n row)) ∙ sym none;
@@ -160,7 +161,7 @@ plain_fits a i row n head sets long short four rows none =
     plain-is : put-pattern a i row n head sets ≡ plain (take n row)
     plain-is = ap (λ (x : ℕ). places (take n row) (take x (get_or (set a.sets i sets) i []))) none ∙ places-plain (take n row)
 
-module _ (a : Arrays) (h : Shaped a) (i : ℕ) (few : i < most_rules) (row : List ℕ) (n : ℕ) (head sets : List ℕ) where
+module _ (a : Arrays) (h : Shaped a) (i : ℕ) (few : i < most_rules) (row : List ℕ) (n : ℕ) (head : Head) (sets : List ℕ) where
   abbrev b : Arrays
   b = put a i row n head sets
 
@@ -170,22 +171,22 @@ module _ (a : Arrays) (h : Shaped a) (i : ℕ) (few : i < most_rules) (row : Lis
   length-here : get_or b.lengths i 0 ≡ n
   length-here = get_or-set_same a.lengths i n 0 (omega (arith, h.lengths_long))
 
-  head-here : get_or b.heads i [] ≡ head
-  head-here = get_or-set_same a.heads i head [] (omega (arith, h.heads_long))
+  head-here : get_or b.heads i no_head ≡ head
+  head-here = get_or-set_same a.heads i head no_head (omega (arith, h.heads_long))
 
   put_other : (j : ℕ) → (j ≡ i → ⊥) → rule_at b j ≡ rule_at a j
   put_other j d =
       cc (
         get_or-set_other a.rows i j row [] d,
         get_or-set_other a.lengths i j n 0 d,
-        get_or-set_other a.heads i j head [] d,
+        get_or-set_other a.heads i j head no_head d,
         get_or-set_other a.sets i j sets [] d,
       )
 
-  put-here : rule_at b i ≡ rule_with (kind_of (eqb (get_or head 2 0) 0x24)) (put-pattern a i row n head sets) (get_or head 0 0) (get_or head 1 0)
+  put-here : rule_at b i ≡ rule_with (kind_of (eqb head.command 0x24)) (put-pattern a i row n head sets) head.place head.tag
   put-here = cc (row_here, length-here, head-here)
 
-  put-down : rules_down b (suc i) ≡ rule_with (kind_of (eqb (get_or head 2 0) 0x24)) (put-pattern a i row n head sets) (get_or head 0 0) (get_or head 1 0) ∷ rules_down a i
+  put-down : rules_down b (suc i) ≡ rule_with (kind_of (eqb head.command 0x24)) (put-pattern a i row n head sets) head.place head.tag ∷ rules_down a i
   put-down = cc (put-here, down-same a b i (λ j l. put_other j (λ e. omega arith)))
 
   at_each : (P : ℕ → Type 0) → P i → ((j : ℕ) → (j ≡ i → ⊥) → P j) → (j : ℕ) → P j
@@ -205,19 +206,16 @@ module _ (a : Arrays) (h : Shaped a) (i : ℕ) (few : i < most_rules) (row : Lis
         lengths_long = length-set a.lengths i n ∙ h.lengths_long;
         length_short = set-short a.lengths i n longest_pattern f.short h.length_short;
         heads_long = length-set a.heads i head ∙ h.heads_long;
-        head_long = at_each (λ (j : ℕ). j < most_rules → length (get_or b.heads j []) ≡ 4)
-            (λ l. ap length head-here ∙ f.head_long)
-            (λ j d l. ap length (get_or-set_other a.heads i j head [] d) ∙ h.head_long j l);
         sets_long = sized h.sets_long;
         set_long = at_each (λ (j : ℕ). j < length b.sets → length (get_or b.sets j []) ≡ longest_pattern)
             (λ l. let m : i < length a.sets = omega (arith, length-set a.sets i sets) in ap length (get_or-set_same a.sets i sets [] m) ∙ f.set_long m)
             (λ j d l. ap length (get_or-set_other a.sets i j sets [] d) ∙ h.set_long j (omega (arith, length-set a.sets i sets)));
         sets_few = at_each (λ (j : ℕ). j < most_rules → sets_at b j ≤ length (get_or b.sets j []))
-            (λ l. omega (arith, f.few, ap (λ (x : List ℕ). get_or x 3 0) head-here))
-            (λ j d l. omega (arith, h.sets_few j l, ap (λ (x : List ℕ). get_or x 3 0) (get_or-set_other a.heads i j head [] d), ap length (get_or-set_other a.sets i j sets [] d)));
+            (λ l. omega (arith, f.few, ap (λ (x : Head). x.sets) head-here))
+            (λ j d l. omega (arith, h.sets_few j l, ap (λ (x : Head). x.sets) (get_or-set_other a.heads i j head no_head d), ap length (get_or-set_other a.sets i j sets [] d)));
         last_is = at_each (λ (j : ℕ). j < most_rules → last_set (rule_at b j).pattern ≡ sets_at b j)
             (λ l. cc (row_here, length-here, head-here, f.last_is))
-            (λ j d l. cc (put_other j d, get_or-set_other a.heads i j head [] d, h.last_is j l));
+            (λ j d l. cc (put_other j d, get_or-set_other a.heads i j head no_head d, h.last_is j l));
         word_is = at_each (λ (j : ℕ). j < most_rules → word (rule_at b j).pattern ≡ row_at b j)
             (λ l. cc (row_here, length-here, head-here, f.word_is))
             (λ j d l. cc (put_other j d, get_or-set_other a.rows i j row [] d, get_or-set_other a.lengths i j n 0 d, h.word_is j l));
@@ -230,11 +228,11 @@ module _ (a : Arrays) (h : Shaped a) (i : ℕ) (few : i < most_rules) (row : Lis
 -- ---- one more rule, with no pattern yet: at m, opened by the command c
 
 abbrev pub opened-arrays : Arrays → ℕ → ℕ → ℕ → ℕ → Arrays
-opened-arrays a m p t c = holding a.rows (set a.lengths m 0) (set a.heads m (p ∷ t ∷ c ∷ 0 ∷ [])) a.sets
+opened-arrays a m p t c = holding a.rows (set a.lengths m 0) (set a.heads m (record { place = p; tag = t; command = c; sets = 0 })) a.sets
 
 module _ (a : Arrays) (h : Shaped a) (m : ℕ) (few : m < most_rules) (p t c : ℕ) where
-  abbrev new-head : List ℕ
-  new-head = p ∷ t ∷ c ∷ 0 ∷ []
+  abbrev new-head : Head
+  new-head = record { place = p; tag = t; command = c; sets = 0 }
 
   opened-put : put a m (get_or a.rows m []) 0 new-head (get_or a.sets m []) ≡ opened-arrays a m p t c
   opened-put = cc (set_same a.rows m [], set_same a.sets m [])
@@ -243,12 +241,12 @@ module _ (a : Arrays) (h : Shaped a) (m : ℕ) (few : m < most_rules) (p t c : �
   opened-shaped =
       subst Shaped opened-put
       (put-shaped a h m few (get_or a.rows m []) 0 new-head (get_or a.sets m [])
-      (plain_fits a m (get_or a.rows m []) 0 new-head (get_or a.sets m []) (h.row_long m few) (omega arith) refl (h.set_long m) refl))
+      (plain_fits a m (get_or a.rows m []) 0 new-head (get_or a.sets m []) (h.row_long m few) (omega arith) (h.set_long m) refl))
 
   pub opened-empty : (get_or (opened-arrays a m p t c).lengths m 0 ≡ 0) × (sets_at (opened-arrays a m p t c) m ≡ 0)
   opened-empty = (
     get_or-set_same a.lengths m 0 0 (omega (arith, h.lengths_long)),
-    ap (λ (x : List ℕ). get_or x 3 0) (get_or-set_same a.heads m new-head [] (omega (arith, h.heads_long))),
+    ap (λ (x : Head). x.sets) (get_or-set_same a.heads m new-head no_head (omega (arith, h.heads_long))),
   )
 
   pub opened-down : (kind : Kind) → c ≡ opener kind → rules_down (opened-arrays a m p t c) (suc m) ≡ opened kind p t ∷ rules_down a m
@@ -263,37 +261,41 @@ module _ (a : Arrays) (h : Shaped a) (m : ℕ) (few : m < most_rules) (p t c : �
 abbrev pub tagged-arrays : Arrays → ℕ → List ℕ → ℕ → Arrays
 tagged-arrays a i row n = holding (set a.rows i row) (set a.lengths i n) a.heads a.sets
 
+-- the head with another place of its last set
+abbrev pub with_sets : Head → ℕ → Head
+with_sets head last = record { place = head.place; tag = head.tag; command = head.command; sets = last }
+
 -- and after it has got n places, of which the last set is the one before `last`
 abbrev pub placed_arrays : Arrays → ℕ → List ℕ → ℕ → List ℕ → ℕ → Arrays
-placed_arrays a i row n sets last = put a i row n (set (get_or a.heads i []) 3 last) sets
+placed_arrays a i row n sets last = put a i row n (with_sets (get_or a.heads i no_head) last) sets
 
 pub untagged_down : (a : Arrays) (i : ℕ) → get_or a.lengths i 0 ≡ 0 → rules_down a (suc i) ≡ with_tags (rule_at a i) [] ∷ rules_down a i
 untagged_down a i e = cc
 
 module _ (a : Arrays) (h : Shaped a) (i : ℕ) (few : i < most_rules) (row : List ℕ) (long : length row ≡ longest_pattern) (none : sets_at a i ≡ 0) where
-  abbrev head : List ℕ
-  head = get_or a.heads i []
+  abbrev head : Head
+  head = get_or a.heads i no_head
 
   -- nothing but the rows has been written
   rows-put : (sets : List ℕ) → put a i row (get_or a.lengths i 0) head sets ≡ holding (set a.rows i row) a.lengths a.heads (set a.sets i sets)
-  rows-put sets = cc (set_same a.lengths i 0, set_same a.heads i [])
+  rows-put sets = cc (set_same a.lengths i 0, set_same a.heads i no_head)
 
   pub rows-shaped : (sets : List ℕ) → (i < length a.sets → length sets ≡ longest_pattern) → Shaped (holding (set a.rows i row) a.lengths a.heads (set a.sets i sets))
   rows-shaped sets rows =
       subst Shaped (rows-put sets)
-      (put-shaped a h i few row (get_or a.lengths i 0) head sets (plain_fits a i row (get_or a.lengths i 0) head sets long (h.length_short i) (h.head_long i few) rows none))
+      (put-shaped a h i few row (get_or a.lengths i 0) head sets (plain_fits a i row (get_or a.lengths i 0) head sets long (h.length_short i) rows none))
 
   pub row-shaped : Shaped (holding (set a.rows i row) a.lengths a.heads a.sets)
   row-shaped =
       subst (λ (x : List (List ℕ)). Shaped (holding (set a.rows i row) a.lengths a.heads x)) (set_same a.sets i []) (rows-shaped (get_or a.sets i []) (h.set_long i))
 
   tagged-put : (n : ℕ) → put a i row n head (get_or a.sets i []) ≡ tagged-arrays a i row n
-  tagged-put n = cc (set_same a.heads i [], set_same a.sets i [])
+  tagged-put n = cc (set_same a.heads i no_head, set_same a.sets i [])
 
   pub tagged-shaped : (n : ℕ) → n ≤ longest_pattern → Shaped (tagged-arrays a i row n)
   tagged-shaped n short =
       subst Shaped (tagged-put n)
-      (put-shaped a h i few row n head (get_or a.sets i []) (plain_fits a i row n head (get_or a.sets i []) long short (h.head_long i few) (h.set_long i) none))
+      (put-shaped a h i few row n head (get_or a.sets i []) (plain_fits a i row n head (get_or a.sets i []) long short (h.set_long i) none))
 
   pub tagged-down : (n : ℕ) → rules_down (tagged-arrays a i row n) (suc i) ≡ with_tags (rule_at a i) (plain (take n row)) ∷ rules_down a i
   tagged-down n =
@@ -306,39 +308,30 @@ module _ (a : Arrays) (h : Shaped a) (i : ℕ) (few : i < most_rules) (row : Lis
     sets-here : get_or (set a.sets i sets) i [] ≡ sets
     sets-here = get_or-set_same a.sets i sets [] room
 
-    last-here : get_or (set head 3 last) 3 0 ≡ last
-    last-here = get_or-set_same head 3 last 0 (omega (arith, h.head_long i few))
-
-    pattern-here : put-pattern a i row n (set head 3 last) sets ≡ places (take n row) (take last sets)
-    pattern-here = cc (sets-here, last-here)
+    pattern-here : put-pattern a i row n (with_sets head last) sets ≡ places (take n row) (take last sets)
+    pattern-here = cc sets-here
 
     pub placed_shaped : Placed row sets n last → Shaped (placed_arrays a i row n sets last)
     placed_shaped p =
-        put-shaped a h i few row n (set head 3 last) sets
+        put-shaped a h i few row n (with_sets head last) sets
         (record {
           row_long = long;
           short = p.few;
-          head_long = length-set head 3 last ∙ h.head_long i few;
           set_long = λ l. wide;
-          few = omega (arith, last-here, ap length sets-here, wide, p.few, p.inside);
-          last_is = ap last_set pattern-here ∙ p.last_is ∙ sym last-here;
+          few = omega (arith, ap length sets-here, wide, p.few, p.inside);
+          last_is = ap last_set pattern-here ∙ p.last_is;
           word_is = ap word pattern-here ∙ p.word_is;
         })
 
     pub placed_down : rules_down (placed_arrays a i row n sets last) (suc i) ≡ with_tags (rule_at a i) (places (take n row) (take last sets)) ∷ rules_down a i
     placed_down =
-        put-down a h i few row n (set head 3 last) sets
-        ∙ cc (
-          pattern-here,
-          get_or-set_other head 3 0 last 0 (λ e. omega arith),
-          get_or-set_other head 3 1 last 0 (λ e. omega arith),
-          get_or-set_other head 3 2 last 0 (λ e. omega arith),
-        )
+        put-down a h i few row n (with_sets head last) sets
+        ∙ cc pattern-here
 
 -- ---- arrays of zeros, with rows of sets or without
 
 abbrev pub fresh : List (List ℕ) → Arrays
-fresh sets = holding (replicate most_rules (replicate longest_pattern 0)) (replicate most_rules 0) (replicate most_rules (replicate 4 0)) sets
+fresh sets = holding (replicate most_rules (replicate longest_pattern 0)) (replicate most_rules 0) (replicate most_rules no_head) sets
 
 zeros : (n i : ℕ) → ◌≡◌ {A = ℕ} (get_or (replicate n 0) i 0) 0
 zeros zero i = refl
@@ -353,11 +346,10 @@ fresh_shaped sets rows =
       lengths_long = refl;
       length_short = λ i. omega (arith, zeros most_rules i);
       heads_long = refl;
-      head_long = λ i h. ap length (get_or-replicate most_rules i (replicate 4 0) [] h);
       sets_long = rows.sets_long;
       set_long = rows.set_long;
-      sets_few = λ i h. omega (arith, ap (λ (x : List ℕ). get_or x 3 0) (get_or-replicate most_rules i (replicate 4 0) [] h));
-      last_is = λ i h. ap last_set (empty i) ∙ sym (ap (λ (x : List ℕ). get_or x 3 0) (get_or-replicate most_rules i (replicate 4 0) [] h));
+      sets_few = λ i h. omega (arith, ap (λ (x : Head). x.sets) (get_or-replicate most_rules i no_head no_head h));
+      last_is = λ i h. ap last_set (empty i) ∙ sym (ap (λ (x : Head). x.sets) (get_or-replicate most_rules i no_head no_head h));
       word_is = λ i h. ap word (empty i) ∙ sym (no_row i);
     }
   where

@@ -10,7 +10,10 @@ use lib.ListN.{length, get_or, drop}
 use lib.Seq.{drop-cons, drop-length}
 use Rattle.limits.specs.Limits.{fewest_tags, InRange}
 use Rattle.limits.specs.declared.Limits.{Limits}
+use Rattle.std.specs.Prelude.{Result, Ok, Err}
 use Rattle.answers.specs.Outcome.{result, refused, nothing, byte, and_then}
+use Rattle.answers.specs.Answer.{number_of}
+use Rattle.answers.specs.declared.Reason.{Reason}
 use Rattle.cascades.specs.Pattern.{Class, one, any}
 use Rattle.cascades.specs.Rule.{Kind, Rule}
 use Rattle.books.specs.Book.{opener}
@@ -82,11 +85,10 @@ module _ (lim : Limits) (s : List ℕ) (k m : ℕ) (a : Arrays) (at : ℕ) where
 
     -- 00
     module _ (e : get_or s at 0 ≡ 0x00) where
-      pub end_fault : (n : ℕ) → closing (rules_down a m) ≡ faulted n → (n ≡ 0 → ⊥) → read_commands lim s k m a at ≡ refused n (byte at)
-      end_fault zero f d = absurd (d refl)
-      end_fault (suc n) f d = read_stop lim s (command k (rules_down a m)) at (suc n) h (cc)
+      pub end_fault : (reason : Reason) → closing (rules_down a m) ≡ faulted (Err reason) → read_commands lim s k m a at ≡ refused (number_of reason) (byte at)
+      end_fault reason f = read_stop lim s (command k (rules_down a m)) at (number_of reason) h (cc)
 
-      module _ (f : closing (rules_down a m) ≡ faulted 0) where
+      module _ (f : closing (rules_down a m) ≡ faulted (Ok tt)) where
         end-closed : read_commands lim s k m a at ≡ read_from lim (ended k (rules_down a m)) (at + 1) (drop (at + 1) s)
         end-closed = read_go lim s (command k (rules_down a m)) at (ended k (rules_down a m)) h (cc)
 
@@ -101,11 +103,10 @@ module _ (lim : Limits) (s : List ℕ) (k m : ℕ) (a : Arrays) (at : ℕ) where
       rule_opens : step lim (command k (rules_down a m)) (get_or s at 0) ≡ next_rule lim k kind (rules_down a m)
       rule_opens = ap (step lim (command k (rules_down a m))) e ∙ step_opens lim k (rules_down a m) kind
 
-      pub rule_fault : (n : ℕ) → closing (rules_down a m) ≡ faulted n → (n ≡ 0 → ⊥) → read_commands lim s k m a at ≡ refused n (byte at)
-      rule_fault zero f d = absurd (d refl)
-      rule_fault (suc n) f d = read_stop lim s (command k (rules_down a m)) at (suc n) h (rule_opens ∙ cc)
+      pub rule_fault : (reason : Reason) → closing (rules_down a m) ≡ faulted (Err reason) → read_commands lim s k m a at ≡ refused (number_of reason) (byte at)
+      rule_fault reason f = read_stop lim s (command k (rules_down a m)) at (number_of reason) h (rule_opens ∙ cc)
 
-      module _ (f : closing (rules_down a m) ≡ faulted 0) where
+      module _ (f : closing (rules_down a m) ≡ faulted (Ok tt)) where
         pub rule_too_many : lim.rules ≤ m → read_commands lim s k m a at ≡ refused 7 (byte at)
         rule_too_many l =
             read_stop lim s (command k (rules_down a m)) at 7 h (rule_opens ∙ cc (le-ltb (length (rules_down a m)) lim.rules (omega (arith, down-length a m))))
@@ -196,29 +197,26 @@ module _ (lim : Limits) (s : List ℕ) (k : ℕ) (r : Rule) (rs : List Rule) (w 
           ∙ read-end lim s (set_byte k (with_tags r w) rs (5 - n) (number_at s first n)) (first + n) end
           ∙ ap (λ (x : ℕ). refused 1 (byte x)) end
 
-      module _ (l : at + 6 < length s) (fault : ℕ) (told : (next : Stage) → set_read k (number_at s first 6) next ≡ and_then (faulted fault) (λ x. result next)) where
+      module _ (l : at + 6 < length s) (fault : Result (Unit {0}) Reason) (told : (next : Stage) → set_read k (number_at s first 6) next ≡ and_then (faulted fault) (λ x. result next)) where
         abbrev grown : Stage
         grown = command k (longer (with_tags r w) (any (number_at s first 6)) ∷ rs)
 
         last_byte : step lim (set_byte k (with_tags r w) rs 0 (number_at s first 5)) (get_or s (first + 5) 0) ≡ and_then (faulted fault) (λ x. result grown)
         last_byte = cc (lt-ltb (get_or s (first + 5) 0) 0x100 (bytes (first + 5)), told grown)
 
-        pub set_fault : (fault ≡ 0 → ⊥) → read_tags lim s k r rs w at ≡ refused fault (byte (at + 6))
-        set_fault d =
+        pub set_fault : (reason : Reason) → fault ≡ Err reason → read_tags lim s k r rs w at ≡ refused (number_of reason) (byte (at + 6))
+        set_fault reason is =
             let end : first + 5 ≡ at + 6 = omega arith in
             set-goes 5 0 refl (omega arith)
-            ∙ read_stop lim s (set_byte k (with_tags r w) rs 0 (number_at s first 5)) (first + 5) fault (omega arith) (last_byte ∙ by fault d)
-            ∙ ap (λ (x : ℕ). refused fault (byte x)) end
-          where
-            by : (n : ℕ) → (n ≡ 0 → ⊥) → and_then (faulted n) (λ x. result grown) ≡ refused n nothing
-            by zero d = absurd (d refl)
-            by (suc n) d = refl
+            ∙ read_stop lim s (set_byte k (with_tags r w) rs 0 (number_at s first 5)) (first + 5) (number_of reason) (omega arith)
+            (last_byte ∙ ap (λ (n : Result (Unit {0}) Reason). and_then (faulted n) (λ x. result grown)) is)
+            ∙ ap (λ (x : ℕ). refused (number_of reason) (byte x)) end
 
-        pub set-taken : fault ≡ 0 → read_tags lim s k r rs w at ≡ read_tags lim s k r rs (w ++ (any (number_at s first 6) ∷ [])) (at + 7)
+        pub set-taken : fault ≡ Ok tt → read_tags lim s k r rs w at ≡ read_tags lim s k r rs (w ++ (any (number_at s first 6) ∷ [])) (at + 7)
         set-taken z =
             let next : first + 5 + 1 ≡ at + 7 = omega arith in
             set-goes 5 0 refl (omega arith)
-            ∙ read_go lim s (set_byte k (with_tags r w) rs 0 (number_at s first 5)) (first + 5) grown (omega arith) (last_byte ∙ ap (λ (n : ℕ). and_then (faulted n) (λ x. result grown)) z)
+            ∙ read_go lim s (set_byte k (with_tags r w) rs 0 (number_at s first 5)) (first + 5) grown (omega arith) (last_byte ∙ ap (λ (n : Result (Unit {0}) Reason). and_then (faulted n) (λ x. result grown)) z)
             ∙ cc next
 
   -- 22 or 23

@@ -12,3 +12,4 @@ pub mod SoFar
 pub mod Resume
 pub mod Held
 pub mod Examples
+pub mod Tried

@@ -14,7 +14,10 @@ use lib.Pow.{pow_pos, shr_lt}
 use lib.ListN.{length, set, take}
 use lib.Seq.{length-take-le, take-take, take-suc-set}
 use Rattle.limits.specs.Limits.{longest_pattern}
+use Rattle.std.specs.Prelude.{Result, Ok, Err}
 use Rattle.answers.specs.Outcome.{result, and_then, provided}
+use Rattle.answers.specs.declared.Reason.{Reason}
+use Rattle.answers.specs.declared.Reason.TheVariants.{BadTag, SmallSet}
 use Rattle.answers.proofs.Outcome.{passed}
 use Rattle.cascades.specs.Pattern.{Class, one, any, ones, word, plain}
 use Rattle.cascades.specs.Value.{class_of, places, last_set}
@@ -104,10 +107,10 @@ ones-count zero s h = omega (arith, ones-le 0 s h)
 ones-count (suc k) s h = ap (λ (x : ℕ). s % 2 + x) (ones-count k (s / 2) (shr_lt k 1 (subst (λ (x : ℕ). s < 2 ^ x) (sym (add-one k)) h))) ∙ sym (ones_step s)
 
 module _ (k s : ℕ) where
-  abbrev Told : ℕ → Type 0
+  abbrev Told : Result (Unit {0}) Reason → Type 0
   Told n = (next : Stage) → set_read k s next ≡ and_then (faulted n) (λ x. result next)
 
-  pub set-high : (s / 2 ^ k ≡ 0 → ⊥) → Told 4
+  pub set-high : (s / 2 ^ k ≡ 0 → ⊥) → Told (Err BadTag)
   set-high d next = cc (le-ltb s (2 ^ k) (by (dec_lt s (2 ^ k))))
     where
       by : Dec (s < 2 ^ k) → 2 ^ k ≤ s
@@ -118,14 +121,14 @@ module _ (k s : ℕ) where
     below : s < 2 ^ k
     below = omega (arith, (div-lt_iff_lt-mul {k = 2 ^ k} {x = s} {y = 1} (pow_pos k)).0 (omega arith))
 
-    pub set-few : count s < 2 → Told 18
+    pub set-few : count s < 2 → Told (Err SmallSet)
     set-few f next = cc (lt-ltb s (2 ^ k) below, lt-leb 2 (ones k s) (omega (arith, ones-count k s below)))
 
-    pub set_good : 2 ≤ count s → Told 0
+    pub set_good : 2 ≤ count s → Told (Ok tt)
     set_good f next = cc (lt-ltb s (2 ^ k) below, le-leb 2 (ones k s) (omega (arith, ones-count k s below)))
 
 -- a set that is taken has a tag
-pub some-tag : (k s : ℕ) → Told k s 0 → s ≡ 0 → ⊥
+pub some-tag : (k s : ℕ) → Told k s (Ok tt) → s ≡ 0 → ⊥
 some-tag k s told e =
     let four = passed 4 (ltb s (2 ^ k)) (provided 18 (leb 2 (ones k s)) (result opening)) opening (told opening) in
     let two = passed 18 (leb 2 (ones k s)) (result opening) opening four.1 in

@@ -1,38 +1,42 @@
 -- "Reading keeps the patterns as an array of sixteen rows of six tags, with each length beside" (document 01), and "The rows that keep the
 -- patterns hold eight tags from now on" (document 02, W8): the rules that the reader's arrays hold.
--- What else a rule has stands in a third array, its head: the place, the new tag, the command that opened it, and one more than the place of its
--- last set. The sets stand in a fourth, a row a rule, 0 where a tag stands (document 02, W9): it has no rows while no set has been read.
+-- What else a rule has stands in a third array, its head. The sets stand in a fourth, a row a rule, 0 where a tag stands (document 02, W9): it has no rows while no set has been read.
 use Rattle.std.specs.Prelude.{ℕ, zero, suc, ◌≤◌, ◌<◌, ◌≡◌, ◌⊎◌, List, [], ◌∷◌, reverse, eqb, length, get_or, take}
-use Rattle.std.specs.Borrow.{Bor}
 use Rattle.limits.specs.Limits.{most_rules, longest_pattern, no_end}
 use Rattle.cascades.specs.Rule.{Kind, Rule, ValidRule, Cascade}
 use Rattle.cascades.specs.Value.{kind_of, rule_with, places, last_set}
 use Rattle.cascades.specs.Pattern.{word}
+use Rattle.books.specs.declared.Head.{Head}
+use Rattle.books.specs.declared.Rules.{Rules}
 
 pub record Arrays : Type 0 where
   pub rows : List (List ℕ)
   pub lengths : List ℕ
-  pub heads : List (List ℕ)
+  pub heads : List Head
   pub sets : List (List ℕ)
 
-abbrev pub holding : List (List ℕ) → List ℕ → List (List ℕ) → List (List ℕ) → Arrays
+abbrev pub holding : List (List ℕ) → List ℕ → List Head → List (List ℕ) → Arrays
 holding rows lengths heads sets = record { rows = rows; lengths = lengths; heads = heads; sets = sets }
 
--- what lent arrays hold, with a slice of rows of sets
-abbrev pub arrays : Bor (List (List ℕ)) → Bor (List ℕ) → Bor (List (List ℕ)) → List (List ℕ) → Arrays
-arrays rows lengths heads sets = holding rows.now lengths.now heads.now sets
+-- the rules that are read, with the rows of their sets
+abbrev pub arrays : Rules → List (List ℕ) → Arrays
+arrays rules sets = holding rules.rows rules.lengths rules.heads sets
+
+-- the head of no rule
+abbrev pub no_head : Head
+no_head = record { place = 0; tag = 0; command = 0; sets = 0 }
 
 abbrev pub place_at : Arrays → ℕ → ℕ
-place_at a i = get_or (get_or a.heads i []) 0 0
+place_at a i = (get_or a.heads i no_head).place
 
 abbrev pub tag_at : Arrays → ℕ → ℕ
-tag_at a i = get_or (get_or a.heads i []) 1 0
+tag_at a i = (get_or a.heads i no_head).tag
 
 abbrev pub kind_at : Arrays → ℕ → Kind
-kind_at a i = kind_of (eqb (get_or (get_or a.heads i []) 2 0) 0x24)
+kind_at a i = kind_of (eqb (get_or a.heads i no_head).command 0x24)
 
 abbrev pub sets_at : Arrays → ℕ → ℕ
-sets_at a i = get_or (get_or a.heads i []) 3 0
+sets_at a i = (get_or a.heads i no_head).sets
 
 -- the first tags of a rule's row, as many as its pattern has places
 abbrev pub row_at : Arrays → ℕ → List ℕ
@@ -53,7 +57,6 @@ pub record Shaped (a : Arrays) : Type 0 where
   pub lengths_long : length a.lengths ≡ most_rules
   pub length_short : (i : ℕ) → get_or a.lengths i 0 ≤ longest_pattern
   pub heads_long : length a.heads ≡ most_rules
-  pub head_long : (i : ℕ) → i < most_rules → length (get_or a.heads i []) ≡ 4
   pub sets_long : (length a.sets ≡ 0) ⊎ (length a.sets ≡ most_rules)
   pub set_long : (i : ℕ) → i < length a.sets → length (get_or a.sets i []) ≡ longest_pattern
   pub sets_few : (i : ℕ) → i < most_rules → sets_at a i ≤ length (get_or a.sets i [])

@@ -5,3 +5,4 @@ pub mod Ending
 pub mod Arrays
 pub mod Answer
 pub mod Resume
+pub mod Tried

@@ -1,58 +1,100 @@
-// Books: definitions and laws in specs/ and proofs/, what the reader of a book and of a pattern's tags answers, and what it keeps in a rule's head.
+// Books: definitions and laws in specs/ and proofs/, the arrays into which a book's rules are read, and what the reader's functions answer.
 #![tactic(auto)]
 
+ghost use Rattle.std.specs.Prelude.{◌≡◌, replicate};
+ghost use Rattle.limits.specs.Limits.{most_rules, longest_pattern};
+ghost use Rattle.books.specs.Arrays.{no_head};
+ghost use Rattle.books.specs.declared.Unread.TheVariants.{Refused};
+
 use answers::Refusal;
+use limits::{PATTERN, RULES};
 
-// What a rule's head holds: its place, its new tag, the command that opened it, and one more than the place of its last set.
-pub const HEAD: usize = 4;
-
-pub const PLACE: usize = 0;
-
-pub const TAG: usize = 1;
-
-pub const COMMAND: usize = 2;
-
-pub const SETS: usize = 3;
-
-// K, the number of rules and whether one of them has a set; or the refusal.
+// A rule's place, its new tag, the command that opened it, and one more than the place of its last set.
 #[derive(Clone, Copy)]
-pub enum BookAnswer {
-    Book { tags: u8, rules: usize, sets: bool },
-    Refused(Refusal),
+pub struct Head {
+    pub place: u8,
+    pub tag: u8,
+    pub command: u8,
+    pub sets: u8,
 }
 
-// What a reading into arrays answers. Where they have no room for sets it says so when it meets one.
+// The rules of a book as they are read: a pattern a row, 0 at a set, its length and its head beside. The rows of the sets stand apart, since few
+// books have any.
 #[derive(Clone, Copy)]
-pub enum Reading {
-    Book { tags: u8, rules: usize },
+pub struct Rules {
+    pub rows: [[u8; PATTERN]; RULES],
+    pub lengths: [usize; RULES],
+    pub heads: [Head; RULES],
+}
+
+impl Rules {
+    // Arrays of zeros.
+    pub fn new() -> Rules
+        ensures { result ≡ record { rows = replicate most_rules (replicate longest_pattern 0); lengths = replicate most_rules 0; heads = replicate most_rules no_head } }
+    {
+        let head = Head {
+            place: 0,
+            tag: 0,
+            command: 0,
+            sets: 0,
+        };
+        Rules {
+            rows: [[0; PATTERN]; RULES],
+            lengths: [0; RULES],
+            heads: [head; RULES],
+        }
+    }
+}
+
+// K and the number of rules of a book that is read, or is being read.
+#[derive(Clone, Copy)]
+pub struct Count {
+    pub tags: u8,
+    pub rules: usize,
+}
+
+// Why a book is not read into arrays: it is refused, or it has a set and they have no room for sets.
+#[derive(Clone, Copy)]
+pub enum Unread {
     Refused(Refusal),
     Sets,
 }
 
-// Where the commands after a pattern's n tags begin, or the refusal.
+impl From<Refusal> for Unread {
+    ghost from_gives = { λ refusal unread. unread ≡ Refused refusal };
+
+    fn from(refusal: Refusal) -> Unread {
+        Unread::Refused(refusal)
+    }
+}
+
+// K, the number of rules and whether one of them has a set.
 #[derive(Clone, Copy)]
-pub enum Tags {
-    To { at: usize, n: usize },
-    Refused { number: u8, byte: usize },
+pub struct Book {
+    pub tags: u8,
+    pub rules: usize,
+    pub sets: bool,
+}
+
+// A pattern of n tags, and where the commands after it begin.
+#[derive(Clone, Copy)]
+pub struct Tags {
+    pub at: usize,
+    pub n: usize,
 }
 
 // The same of a pattern of n places with sets, and one more than the place of its last set.
 #[derive(Clone, Copy)]
-pub enum Places {
-    To { at: usize, n: usize, last: usize },
-    Refused { number: u8, byte: usize },
+pub struct Places {
+    pub at: usize,
+    pub n: usize,
+    pub last: usize,
 }
 
-// A place of a pattern, with 0 for a set where it is a tag, and 0 for a tag where it is a set, and where the next command is; or the refusal.
+// A place of a pattern, with 0 for a set where it is a tag, and 0 for a tag where it is a set, and where the next command is.
 #[derive(Clone, Copy)]
-pub enum Place {
-    To { tag: u8, set: u64, at: usize },
-    Refused { number: u8, byte: usize },
-}
-
-// Where the commands after a pattern begin; or the refusal.
-#[derive(Clone, Copy)]
-pub enum Next {
-    To(usize),
-    Refused { number: u8, byte: usize },
+pub struct Place {
+    pub tag: u8,
+    pub set: u64,
+    pub at: usize,
 }

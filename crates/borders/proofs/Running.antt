@@ -3,13 +3,13 @@ use Prim.Native.Nat.{ℕ, suc, ◌+◌, ◌-◌, ◌*◌, ◌≤◌, ◌<◌}
 use native.Mathlib.Omega.{arith}
 use native.Mathlib.Decide.{ℕ_discrete}
 use native.Mathlib.Numerals.{add-one}
-use mathlib.Core.Path.{◌≡◌, refl, sym, ap, ◌∙◌}
+use mathlib.Core.Path.{◌≡◌, sym, ap, ◌∙◌}
 use mathlib.Core.Logic.{◌⊎◌, inl, inr}
 use mathlib.Core.List.{List}
 use lib.ListN.{length, get_or, set, drop, length-set}
 use lib.Seq.{get_or-set_same, get_or-set_other, drop-set-lt}
-use Rattle.borders.specs.Border.{border, counted, comparisons, Bordered}
-use Rattle.borders.proofs.Border.{grown, tried, border-below, border-none, border-grown, grown_shorter, tried_shorter, grown-none, tried_none, grown-longer, tried_once, counted_tried, counted-few}
+use Rattle.borders.specs.Border.{border, counted}
+use Rattle.borders.proofs.Border.{grown, tried, border-below, border-grown, grown_shorter, tried_shorter, grown-none, tried_none, grown-longer, tried_once, counted_tried, counted-few}
 
 -- the borders of the first j tags stand in X; that of one tag more is b's and that tag's
 pub record Running (u B X : List ℕ) (j b count : ℕ) : Type 0 where
@@ -37,41 +37,8 @@ abbrev pub begun : List ℕ → List ℕ
 begun B = set (set B 0 0) 1 0
 
 module _ (u B : List ℕ) (room : length u < length B) where
-  -- no tags: nothing to find
-  first_found : (i : ℕ) → i ≤ 0 → get_or (set B 0 0) i 0 ≡ border u i
-  first_found i h =
-      let none : i ≡ 0 = omega arith in
-      ap (λ (n : ℕ). get_or (set B 0 0) n 0) none ∙ get_or-set_same B 0 0 0 (omega arith) ∙ sym (border-none u i (omega arith) (omega arith))
-
-  pub running_none : length u ≡ 0 → (0 ≡ comparisons u) × Bordered u B (set B 0 0)
-  running_none e = (
-    let none : length u - 1 ≡ 0 = omega arith in sym (ap (counted u) none),
-    record {
-      long = length-set B 0 0;
-      borders = record { room = omega (arith, length-set B 0 0); entry = λ j h. first_found j (omega arith) };
-      rest = drop-set-lt (suc (length u)) B 0 0 (omega arith);
-    },
-  )
-
   pub begun_long : length (begun B) ≡ length B
   begun_long = length-set (set B 0 0) 1 0 ∙ length-set B 0 0
-
-  pub running-start : 0 < length u → Running u (begun B) (begun B) 1 0 0
-  running-start some =
-      record {
-        low = omega arith;
-        high = omega arith;
-        below = omega arith;
-        long = refl;
-        rest = refl;
-        found = found_next u (set B 0 0) 0 0 (omega (arith, length-set B 0 0)) (sym (border-none u 1 (omega arith) (omega arith))) first_found;
-        grows = λ h. ap (grown u (get_or u 1 0)) (sym first) ∙ sym (border-grown u 1 (omega arith) h);
-        counts = λ h. omega (arith, counted_tried u 1 (omega arith), ap (tried u (get_or u 1 0)) first);
-        done = λ e. omega arith;
-      }
-    where
-      first : border u 1 ≡ 0
-      first = border-none u 1 (omega arith) (omega arith)
 
   module _ (X : List ℕ) (j b count : ℕ) (s : Running u (begun B) X j b count) (h : j < length u) where
     -- the last comparison of a tag: the border of one tag more is v
@@ -127,14 +94,3 @@ module _ (u B : List ℕ) (room : length u < length B) where
 
     pub count_small : count < 2 * length u
     count_small = omega (arith, s.counts h, counted-few u j h)
-
-  pub running-end : (X : List ℕ) (j b count : ℕ) → Running u (begun B) X j b count → (j < length u → ⊥) → (count ≡ comparisons u) × Bordered u B X
-  running-end X j b count s end =
-      let last : j ≡ length u = omega (arith, s.high) in (
-        s.done last ∙ ap (λ (n : ℕ). counted u (n - 1)) last,
-        record {
-          long = s.long ∙ begun_long;
-          borders = record { room = omega (arith, s.long, begun_long); entry = λ i h. s.found i (omega arith) };
-          rest = s.rest ∙ drop-set-lt (suc (length u)) (set B 0 0) 1 0 (omega (arith, s.low)) ∙ drop-set-lt (suc (length u)) B 0 0 (omega arith);
-        },
-      )

@@ -12,13 +12,14 @@ pub fn find_borders(u: &[u8], borders: &mut [usize]) -> usize
     ensures { (result ≡ comparisons u.now) × Bordered u.now borders.old borders.new }
 {
     borders[0] = 0;
-    if u.len() == 0 {
+    if u.is_empty() {
         return 0;
     }
     borders[1] = 0;
     let mut border = 0;
     let mut count = 0;
     let mut j = 1;
+    // Stays: j does not move where the border is shortened, so that a `for` over it would need a second loop within: no plainer.
     while j < u.len() {
         count += 1;
         if u[j] == u[border] {

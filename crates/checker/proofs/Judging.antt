@@ -7,6 +7,7 @@ use mathlib.Core.List.{List}
 use borrow.Author.Tests.{le-leb, lt-leb}
 use lib.Dec.{leb}
 use lib.ListN.{length}
+use Rattle.std.specs.Prelude.{Option, Some, None, Result, Ok, Err}
 use Rattle.words.specs.Word.{Below}
 use Rattle.limits.specs.Limits.{most_states, InRange}
 use Rattle.limits.specs.Work.{rule_holds}
@@ -32,18 +33,14 @@ use Rattle.builder.specs.Rows.{TableInRows}
 use Rattle.comparing.specs.Step.{Indexed}
 use Rattle.equivalence.specs.Tables.{Tables, table_of, table_in, given}
 use Rattle.equivalence.specs.Search as equivalence
-use Rattle.equivalence.specs.declared.Verdict.{Verdict}
 use Rattle.checking.specs.Check.{longest_shown, compared, Answers}
-use Rattle.checking.specs.declared.CheckAnswer.{CheckAnswer}
 use Rattle.checker.specs.Ended.{pair_of, Given, Judges}
 
 -- the verdict, where there is room for a sentence
-module _ (k : ℕ) (S T : Shape) (before after : List ℕ) (v : Verdict) (is : equivalence.Judged k S T before after v) (room : longest_shown ≤ length before) where
-  pub judged_same : v ≡ Verdict.Same → Judges k S T before after CheckAnswer.Same
-  judged_same e = let j = subst (equivalence.Judged k S T before after) e is in (room, j.0, j.1)
-
-  pub judged_differs : (n : ℕ) → v ≡ Verdict.Differs n → Judges k S T before after (CheckAnswer.Differs n)
-  judged_differs n e = (room, subst (equivalence.Judged k S T before after) e is)
+module _ (k : ℕ) (S T : Shape) (before after : List ℕ) (room : longest_shown ≤ length before) where
+  pub judged : (v : Option ℕ) → equivalence.Judged k S T before after v → Judges k S T before after (Ok v)
+  judged None is = (room, is.0, is.1)
+  judged (Some n) is = (room, is)
 
 -- a valid table is a sound transducer
 valid-sound : {lim : Limits} {k : ℕ} {t : Table} → ValidTable lim k t → Sound k (shape t)
@@ -100,7 +97,7 @@ module _ (lim : Limits) (bs : List ℕ) (c : Cascade) (before : List ℕ) where
   abbrev room : ℕ
   room = length before
 
-  pub not-compared : (r : Refusal) → compile_cascade most_states c ≡ refusal r → Answers (compared room (pair_of lim bs c)) before before (CheckAnswer.Refused r)
+  pub not-compared : (r : Refusal) → compile_cascade most_states c ≡ refusal r → Answers (compared room (pair_of lim bs c)) before before (Err r)
   not-compared r e = (ap (λ (o : Outcome Table). and_then o (λ t. provided 11 (leb longest_shown room) (result (pair_of lim bs c)))) e ∙ refusal_then r _, refl)
 
   module _ (g : Grid) (W : List ℕ) (n : ℕ) (rows : TableInRows g W most_states c n) (tags : c.tags ≡ g.tags) where
@@ -110,15 +107,15 @@ module _ (lim : Limits) (bs : List ℕ) (c : Cascade) (before : List ℕ) where
     below-tags : (w : List ℕ) → Below c.tags w → Below g.tags w
     below-tags w b = subst (λ (i : ℕ). Below i w) tags b
 
-    pub answers_judged : (after : List ℕ) (r : CheckAnswer) → Judges g.tags (given lim bs) (standing g W 0 n) before after r
+    pub answers_judged : (after : List ℕ) (r : Result (Option ℕ) Refusal) → Judges g.tags (given lim bs) (standing g W 0 n) before after r
         → Answers (compared room (pair_of lim bs c)) before after r
-    answers_judged after CheckAnswer.Same j = (
+    answers_judged after (Ok None) j = (
       pair_of lim bs c,
       is-compared true (le-leb longest_shown room j.0),
       λ w b. j.1 w (below-tags w b) ∙ rows.does w (below-tags w b),
       j.2,
     )
-    answers_judged after (CheckAnswer.Differs i) j =
+    answers_judged after (Ok (Some i)) j =
         let shown = j.1 in (
           pair_of lim bs c,
           is-compared true (le-leb longest_shown room j.0),
@@ -132,7 +129,7 @@ module _ (lim : Limits) (bs : List ℕ) (c : Cascade) (before : List ℕ) where
             front = shown.front;
           },
         )
-    answers_judged after (CheckAnswer.Refused r) j = (
+    answers_judged after (Err r) j = (
       is-compared false (lt-leb longest_shown room j.0) ∙ ap refusal (sym j.1),
       j.2,
     )

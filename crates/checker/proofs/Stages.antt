@@ -7,6 +7,7 @@ use mathlib.Core.List.{List, ◌++◌}
 use borrow.Author.Tests.{le-leb, lt-leb, eq-eqb, ne_eqb}
 use lib.Dec.{eqb}
 use lib.ListN.{length, drop, replicate}
+use Rattle.std.specs.Prelude.{Option, Result, Ok, Err}
 use Rattle.words.specs.Word.{Below}
 use Rattle.limits.specs.Limits.{most_states, InRange, in_range}
 use Rattle.limits.specs.Work.{rule_states, rule_holds, work_depth}
@@ -15,6 +16,7 @@ use Rattle.limits.proofs.Range.{within-is, without_is}
 use Rattle.answers.specs.Outcome.{Outcome, result, refused, nothing, and_then, provided}
 use Rattle.answers.specs.Answer.{refusal}
 use Rattle.answers.proofs.Outcome.{refusal_then}
+use Rattle.answers.specs.declared.Reason.TheVariants.{ShortWork}
 use Rattle.answers.specs.declared.Refusal.{Refusal}
 use Rattle.answers.specs.declared.Refusal.TheVariants.{AtByte, AtRule, Bare}
 use Rattle.cascades.specs.Rule.{Cascade, ending, some_has_set}
@@ -23,8 +25,9 @@ use Rattle.books.specs.Arrays.{Arrays, rules_of, cascade_of}
 use Rattle.books.specs.Read.{read}
 use Rattle.books.specs.Ending.{fitted, read_ending}
 use Rattle.books.specs.Resume.{Whole}
-use Rattle.books.specs.declared.Reading.{Reading}
-use Rattle.books.specs.declared.Reading.TheVariants.{Book}
+use Rattle.books.specs.declared.Count.{Count}
+use Rattle.books.specs.declared.Unread.{Unread}
+use Rattle.books.specs.declared.Unread.TheVariants.{Refused}
 use Rattle.books.proofs.Held.{was_refused, was_read}
 use Rattle.transducers.specs.Table.{Table}
 use Rattle.tables.specs.Decode.{Decoded, decode, decode_within}
@@ -32,21 +35,20 @@ use Rattle.compilation.specs.Compile.{entries}
 use Rattle.workspace.specs.declared.Grid.{Grid}
 use Rattle.workspace.specs.Cells.{Kept, InRows}
 use Rattle.decoder.specs.Index.{Head, HeadRead, Loaded}
-use Rattle.decoder.specs.declared.TableAnswer.{TableAnswer}
+use Rattle.steps.specs.declared.Size.{Size}
 use Rattle.decoder.proofs.Loading.{states-read}
 use Rattle.steps.proofs.Places.{all-entries}
 use Rattle.compiler.specs.Rows.{grid_of}
 use Rattle.compiler.proofs.Reading.{all_are, beyond}
 use Rattle.equivalence.specs.Tables.{table_of}
 use Rattle.checking.specs.Check.{Pair, paired, roomy, checkable, checked, compared, Answers, wiped}
-use Rattle.checking.specs.declared.CheckAnswer.{CheckAnswer}
 use Rattle.checker.specs.Ended.{pair_of, Given, Ended, after_table, after_end, after_book}
 
 -- a refusal that comes before a state is built: nothing is written
-pub refused-ended : (lim : Limits) (t : Outcome Pair) (r : Refusal) → t ≡ refusal r → (W out : List ℕ) → Ended lim t W W out out (CheckAnswer.Refused r)
+pub refused-ended : (lim : Limits) (t : Outcome Pair) (r : Refusal) → t ≡ refusal r → (W out : List ℕ) → Ended lim t W W out out (Err r)
 refused-ended lim t r e W out = by r e
   where
-    by : (r : Refusal) → t ≡ refusal r → Ended lim t W W out out (CheckAnswer.Refused r)
+    by : (r : Refusal) → t ≡ refusal r → Ended lim t W W out out (Err r)
     by (AtByte j p) e = record { said = (cc (e), refl); wiped_is = cc (e) }
     by (AtRule j p) e = record { said = (cc (e), refl); wiped_is = cc (e) }
     by (Bare j) e = record { said = (cc (e), refl); wiped_is = cc (e) }
@@ -56,7 +58,7 @@ twice_refused : {A B C : Type 0} (r : Refusal) (f : A → Outcome B) (g : B → 
 twice_refused r f g = ap (λ (o : Outcome _). and_then o g) (refusal_then r f) ∙ refusal_then r g
 
 -- the tests by another name
-pub ended_by : {lim : Limits} {t u : Outcome Pair} {W X before after : List ℕ} {r : CheckAnswer} → t ≡ u → Ended lim t W X before after r → Ended lim u W X before after r
+pub ended_by : {lim : Limits} {t u : Outcome Pair} {W X before after : List ℕ} {r : Result (Option ℕ) Refusal} → t ≡ u → Ended lim t W X before after r → Ended lim u W X before after r
 ended_by {lim} {t} {u} {W} {X} {before} {after} {r} e h = subst (λ (o : Outcome Pair). Ended lim o W X before after r) e h
 
 -- ---- 9
@@ -68,12 +70,12 @@ module _ (lim : Limits) (bs : List ℕ) (k end m : ℕ) (a : Arrays) (s : ℕ) (
   whole : g.rows * (g.tags + 1) * g.depth ≡ entries lim most_states c
   whole = all_are lim k most_states end m a s is g e
 
-  pub too_short : (W out : List ℕ) → length W < g.rows * (g.tags + 1) * g.depth → Ended lim (after_table lim bs (length W) c) W W out out (CheckAnswer.Refused (Bare 9))
+  pub too_short : (W out : List ℕ) → length W < g.rows * (g.tags + 1) * g.depth → Ended lim (after_table lim bs (length W) c) W W out out (Err (Bare ShortWork))
   too_short W out h =
       let less : length W < entries lim most_states c = omega (arith, whole) in
-      refused-ended lim (after_table lim bs (length W) c) (Bare 9) (cc (lt-leb (entries lim most_states c) (length W) less)) W out
+      refused-ended lim (after_table lim bs (length W) c) (Bare ShortWork) (cc (lt-leb (entries lim most_states c) (length W) less)) W out
 
-  pub read-ended : (l : ℕ) → l ≡ end → (W X Y out after : List ℕ) (r : CheckAnswer) → g.rows * (g.tags + 1) * g.depth ≤ length W
+  pub read-ended : (l : ℕ) → l ≡ end → (W X Y out after : List ℕ) (r : Result (Option ℕ) Refusal) → g.rows * (g.tags + 1) * g.depth ≤ length W
       → Answers (compared (length out) (pair_of lim bs (ending l (cascade_of g.tags a m)))) out after r
       → Kept g W X (InRows 0 g.rows) → Y ≡ replicate (g.rows * (g.tags + 1) * g.depth) 0 ++ drop (g.rows * (g.tags + 1) * g.depth) X
       → Ended lim (after_table lim bs (length W) c) W Y out after r
@@ -95,10 +97,10 @@ module _ (lim : Limits) (bs : List ℕ) (k end m : ℕ) (a : Arrays) (s : ℕ) (
 
 -- the table's head and its index
 module _ (lim : Limits) (bs : List ℕ) where
-  pub head_of : (r : TableAnswer) → HeadRead lim bs r → (k s : ℕ) → r ≡ TableAnswer.Table k s → Head lim bs k s
-  head_of r h k s e = subst (HeadRead lim bs) e h
+  pub head_of : (r : Result Size Refusal) → HeadRead lim bs r → (size : Size) → r ≡ Ok size → Head lim bs size.tags size.states
+  head_of r h size e = subst (HeadRead lim bs) e h
 
-  pub head-refused : (r : TableAnswer) → HeadRead lim bs r → (x : Refusal) → r ≡ TableAnswer.Refused x → decode_within lim bs ≡ refusal x
+  pub head-refused : (r : Result Size Refusal) → HeadRead lim bs r → (x : Refusal) → r ≡ Err x → decode_within lim bs ≡ refusal x
   head-refused r h x e = subst (HeadRead lim bs) e h
 
   pub few_entries_of : (k s : ℕ) → Head lim bs k s → s * (k + 1) ≤ 12544
@@ -154,18 +156,18 @@ module _ (lim : Limits) (ranged : InRange lim) (book : List ℕ) (end : ℕ) (bs
   goes_on : checkable lim book end bs work ≡ from_book (read lim book)
   goes_on = within-is lim (from_book (read lim book)) ranged
 
-  module _ (a : Arrays) (r : Reading) (w : Whole lim book a r) where
-    pub book_refused : (x : Refusal) → r ≡ Reading.Refused x → checkable lim book end bs work ≡ refusal x
+  module _ (a : Arrays) (r : Result Count Unread) (w : Whole lim book a r) where
+    pub book_refused : (x : Refusal) → r ≡ Err (Refused x) → checkable lim book end bs work ≡ refusal x
     book_refused x f = goes_on ∙ ap from_book (was_refused book a r w x f) ∙ twice_refused x (fitted end) _
 
-    pub book_read : (k m : ℕ) → r ≡ Book k m → after_book lim end bs work (cascade_of k a m) ≡ checkable lim book end bs work
-    book_read k m f = sym (goes_on ∙ ap from_book (was_read book a r w k m f))
+    pub book_read : (b : Count) → r ≡ Ok b → after_book lim end bs work (cascade_of b.tags a b.rules) ≡ checkable lim book end bs work
+    book_read b f = sym (goes_on ∙ ap from_book (was_read book a r w b f))
 
 -- 17
 pub out_of_range : (lim : Limits) (book : List ℕ) (end : ℕ) (bs : List ℕ) (work : ℕ) → in_range lim ≡ false → checkable lim book end bs work ≡ refused 17 nothing
 out_of_range lim book end bs work = without_is lim (and_then (read_ending lim book end) (λ c. and_then (paired lim bs c) (roomy lim work)))
 
 -- both equations of the call
-pub both : (lim : Limits) (book : List ℕ) (end : ℕ) (bs : List ℕ) {W X before after : List ℕ} {r : CheckAnswer} → Ended lim (checkable lim book end bs (length W)) W X before after r
+pub both : (lim : Limits) (book : List ℕ) (end : ℕ) (bs : List ℕ) {W X before after : List ℕ} {r : Result (Option ℕ) Refusal} → Ended lim (checkable lim book end bs (length W)) W X before after r
     → Answers (checked lim book end bs (length W) (length before)) before after r × (X ≡ wiped lim (checkable lim book end bs (length W)) W)
 both lim book end bs h = (h.said, h.wiped_is)

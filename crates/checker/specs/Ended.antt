@@ -1,7 +1,9 @@
 -- What the stages of the check ask and promise.
-use Rattle.std.specs.Prelude.{ℕ, ◌≤◌, ◌<◌, ◌≡◌, List, length}
+use Rattle.std.specs.Prelude.{ℕ, ◌≤◌, ◌<◌, ◌≡◌, List, length, Option, Some, None, Result, Ok, Err}
 use Rattle.limits.specs.declared.Limits.{Limits}
 use Rattle.answers.specs.Outcome.{Outcome, and_then}
+use Rattle.answers.specs.declared.Reason.TheVariants.{ShortOutput}
+use Rattle.answers.specs.declared.Refusal.{Refusal}
 use Rattle.answers.specs.declared.Refusal.TheVariants.{Bare}
 use Rattle.cascades.specs.Rule.{Cascade}
 use Rattle.books.specs.Ending.{fitted}
@@ -11,7 +13,6 @@ use Rattle.decoder.specs.Index.{Loaded}
 use Rattle.equivalence.specs.Tables.{table_in}
 use Rattle.equivalence.specs.Search as equivalence
 use Rattle.checking.specs.Check.{longest_shown, Pair, paired, roomy, compared, Answers, wiped}
-use Rattle.checking.specs.declared.CheckAnswer.{CheckAnswer}
 
 -- the cascade and the table in the bytes
 abbrev pub pair_of : Limits → List ℕ → Cascade → Pair
@@ -23,10 +24,10 @@ pub record Given (lim : Limits) (bs : List ℕ) (k s : ℕ) (ix : List ℕ) : Ty
   pub states : length loaded.table ≡ s
 
 -- 11, or what was found of two transducers over k tags
-abbrev pub Judges : ℕ → Shape → Shape → List ℕ → List ℕ → CheckAnswer → Type 0
-Judges k S T before after CheckAnswer.Same = (longest_shown ≤ length before) × canonical.Same k (puts S 0) (puts T 0) × (after ≡ before)
-Judges k S T before after (CheckAnswer.Differs n) = (longest_shown ≤ length before) × equivalence.Shown k S T before after n
-Judges k S T before after (CheckAnswer.Refused r) = (length before < longest_shown) × (r ≡ Bare 11) × (after ≡ before)
+abbrev pub Judges : ℕ → Shape → Shape → List ℕ → List ℕ → Result (Option ℕ) Refusal → Type 0
+Judges k S T before after (Ok None) = (longest_shown ≤ length before) × canonical.Same k (puts S 0) (puts T 0) × (after ≡ before)
+Judges k S T before after (Ok (Some n)) = (longest_shown ≤ length before) × equivalence.Shown k S T before after n
+Judges k S T before after (Err r) = (length before < longest_shown) × (r ≡ Bare ShortOutput) × (after ≡ before)
 
 -- what is left to be tested after a table over as many tags was read, after 14, and after the book was read
 abbrev pub after_table : Limits → List ℕ → ℕ → Cascade → Outcome Pair
@@ -39,6 +40,6 @@ abbrev pub after_book : Limits → ℕ → List ℕ → ℕ → Cascade → Outc
 after_book lim end bytes work c = and_then (fitted end c) (after_end lim bytes work)
 
 -- where t is what was tested before a state was built: the answer, the output slice and the work slice
-pub record Ended (lim : Limits) (t : Outcome Pair) (W X before after : List ℕ) (r : CheckAnswer) : Type 0 where
+pub record Ended (lim : Limits) (t : Outcome Pair) (W X before after : List ℕ) (r : Result (Option ℕ) Refusal) : Type 0 where
   pub said : Answers (and_then t (compared (length before))) before after r
   pub wiped_is : X ≡ wiped lim t W

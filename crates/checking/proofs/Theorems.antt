@@ -8,12 +8,14 @@ use mathlib.Core.Bool.{Bool, true, false}
 use mathlib.Core.List.{List}
 use borrow.Author.Tests.{le-leb, lt-leb}
 use lib.Dec.{leb}
+use Rattle.std.specs.Prelude.{Option, Some, None, Result, Ok, Err}
 use Rattle.limits.specs.Limits.{most_states}
 use Rattle.limits.specs.declared.Limits.{Limits}
 use Rattle.words.specs.Word.{Below}
 use Rattle.answers.specs.Outcome.{Outcome, result, refused, nothing, provided}
 use Rattle.answers.specs.Answer.{refusal}
 use Rattle.answers.proofs.Outcome.{same-result, refusal_never}
+use Rattle.answers.specs.declared.Reason.TheVariants.{ShortOutput}
 use Rattle.answers.specs.declared.Refusal.{Refusal}
 use Rattle.answers.specs.declared.Refusal.TheVariants.{Bare}
 use Rattle.cascades.specs.Rule.{Cascade}
@@ -24,7 +26,6 @@ use Rattle.tables.specs.Decode.{Decoded}
 use Rattle.compilation.specs.Compile.{compile_cascade, compile_answer}
 use Rattle.compilation.proofs.Demand.{compiled}
 use Rattle.checking.specs.Check.{longest_shown, Pair, checkable, checked, Alike, Shown, Answers}
-use Rattle.checking.specs.declared.CheckAnswer.{CheckAnswer}
 use Rattle.checking.proofs.Tests.{given}
 
 -- a result is no refusal, and is one
@@ -36,20 +37,20 @@ one-result o p q e f = same-result p q (sym e ∙ f)
 
 -- "the checker says yes exactly if both make the same of every sentence"; otherwise no
 module _ (o : Outcome Pair) (before after : List ℕ) (p : Pair) (e : o ≡ result p) where
-  pub said_yes : Answers o before after CheckAnswer.Same → Alike p
+  pub said_yes : Answers o before after (Ok None) → Alike p
   said_yes h = subst Alike (one-result o h.0 p h.1 e) h.2
 
-  pub said_no : (n : ℕ) → Answers o before after (CheckAnswer.Differs n) → Shown p n before after
+  pub said_no : (n : ℕ) → Answers o before after (Ok (Some n)) → Shown p n before after
   said_no n h = subst (λ (q : Pair). Shown q n before after) (one-result o h.0 p h.1 e) h.2
 
   pub no_differs : (n : ℕ) → Shown p n before after → Alike p → ⊥
   no_differs n s alike = s.differs (alike s.sentence s.below)
 
-  pub yes_exactly : (r : CheckAnswer) → Answers o before after r → (r ≡ CheckAnswer.Same) ↔ Alike p
-  yes_exactly CheckAnswer.Same h = (λ f. said_yes h, λ alike. refl)
-  yes_exactly (CheckAnswer.Differs n) h =
+  pub yes_exactly : (r : Result (Option ℕ) Refusal) → Answers o before after r → (r ≡ Ok None) ↔ Alike p
+  yes_exactly (Ok None) h = (λ f. said_yes h, λ alike. refl)
+  yes_exactly (Ok (Some n)) h =
       (λ f. said_yes (subst (Answers o before after) f h), λ alike. absurd (no_differs n (said_no n h) alike))
-  yes_exactly (CheckAnswer.Refused r) h =
+  yes_exactly (Err r) h =
       (λ f. said_yes (subst (Answers o before after) f h), λ alike. absurd (no_refusal o p r e h.0))
 
 -- "11 comes exactly if the output slice has fewer than 1,024 tags, also where the answer would be yes"
@@ -63,7 +64,7 @@ module _ (lim : Limits) (book : List ℕ) (end : ℕ) (bytes : List ℕ) (work r
     where
       by : checked lim book end bytes work room ≡ refused 11 nothing → Dec (room < longest_shown) → room < longest_shown
       by e (yes h) = h
-      by e (no h) = absurd (no_refusal (checked lim book end bytes work room) p (Bare 11) (told true (le-leb longest_shown room (omega arith))) e)
+      by e (no h) = absurd (no_refusal (checked lim book end bytes work room) p (Bare ShortOutput) (told true (le-leb longest_shown room (omega arith))) e)
 
 -- a book's own table, whatever ceiling it was compiled with, gets no no
 pub own-table : (lim : Limits) (book : List ℕ) (end : ℕ) (bytes : List ℕ) (n w r work : ℕ) (p : Pair)

@@ -1,11 +1,12 @@
 -- The check of a table (document 02, W10): "Houses hold tables that others built and want to know whether they do what the book says."
-use Rattle.std.specs.Prelude.{ℕ, ◌≤◌, ◌≡◌, List, ◌++◌, eqb, leb, length, drop, replicate}
+use Rattle.std.specs.Prelude.{ℕ, ◌≤◌, ◌≡◌, List, ◌++◌, eqb, leb, length, drop, replicate, Option, Some, None, Result, Ok, Err}
 use Rattle.words.specs.Word.{Below}
 use Rattle.limits.specs.Limits.{most_states}
 use Rattle.limits.specs.Within.{within}
 use Rattle.limits.specs.declared.Limits.{Limits}
 use Rattle.answers.specs.Outcome.{Outcome, result, refused, and_then, provided}
 use Rattle.answers.specs.Answer.{refusal}
+use Rattle.answers.specs.declared.Refusal.{Refusal}
 use Rattle.cascades.specs.Rule.{Cascade}
 use Rattle.cascades.specs.Rewrite.{behavior}
 use Rattle.books.specs.Ending.{read_ending}
@@ -13,7 +14,6 @@ use Rattle.transducers.specs.Transducer.{puts}
 use Rattle.transducers.specs.Table.{Table, shape}
 use Rattle.tables.specs.Decode.{decode}
 use Rattle.compilation.specs.Compile.{entries, compile_cascade}
-use Rattle.checking.specs.declared.CheckAnswer.{CheckAnswer}
 
 -- "a sentence of that length, at most 1,024 tags"
 abbrev pub longest_shown : ℕ
@@ -61,16 +61,16 @@ pub record Shown (p : Pair) (n : ℕ) (before after : List ℕ) : Type 0 where
   pub front : after ≡ sentence ++ drop n before
 
 -- the answer, and the output slice before and after the call: yes, "A yes writes nothing there"; no; a refusal
-abbrev pub Answers : Outcome Pair → List ℕ → List ℕ → CheckAnswer → Type 0
-Answers o before after CheckAnswer.Same = (p : Pair) × (o ≡ result p) × Alike p × (after ≡ before)
-Answers o before after (CheckAnswer.Differs n) = (p : Pair) × (o ≡ result p) × Shown p n before after
-Answers o before after (CheckAnswer.Refused r) = (o ≡ refusal r) × (after ≡ before)
+abbrev pub Answers : Outcome Pair → List ℕ → List ℕ → Result (Option ℕ) Refusal → Type 0
+Answers o before after (Ok None) = (p : Pair) × (o ≡ result p) × Alike p × (after ≡ before)
+Answers o before after (Ok (Some n)) = (p : Pair) × (o ≡ result p) × Shown p n before after
+Answers o before after (Err r) = (o ≡ refusal r) × (after ≡ before)
 
 -- a yes is 0, and a no the length of the sentence
-abbrev pub check_outcome : CheckAnswer → Outcome ℕ
-check_outcome CheckAnswer.Same = result 0
-check_outcome (CheckAnswer.Differs n) = result n
-check_outcome (CheckAnswer.Refused r) = refusal r
+abbrev pub check_outcome : Result (Option ℕ) Refusal → Outcome ℕ
+check_outcome (Ok None) = result 0
+check_outcome (Ok (Some n)) = result n
+check_outcome (Err r) = refusal r
 
 -- the work slice at exit, as of the compile call: unchanged on every refusal that comes before 10
 abbrev pub wiped : Limits → Outcome Pair → List ℕ → List ℕ

@@ -11,7 +11,7 @@ use lib.Seq.{drop-cons, drop-length}
 use Rattle.cascades.specs.Pattern.{Class, accepts, fits}
 use Rattle.cascades.specs.Value.{class_of, places}
 use Rattle.cascades.proofs.Pattern.{places-length, places-at, fits-short}
-use Rattle.places.specs.declared.Occurrence.TheVariants.{At, Nowhere}
+use Rattle.std.specs.Prelude.{None}
 use Rattle.leftmost.specs.Leftmost.{Found}
 use Rattle.leftmost.proofs.Leftmost.{place_is}
 
@@ -40,12 +40,9 @@ module _ (u ss s : List ℕ) (i j : ℕ) where
 
 module _ (u : List Class) (s : List ℕ) (from : ℕ) where
   -- it fits at none of the first, and has no room behind them
-  pub part_none : 0 < length u → (count : ℕ) → length s < from + count + length u → ((j : ℕ) → j < count → fits u (drop (from + j) s) ≡ false) → Found (fits u) (drop from s) Nowhere
+  pub part_none : 0 < length u → (count : ℕ) → length s < from + count + length u → ((j : ℕ) → j < count → fits u (drop (from + j) s) ≡ false) → Found (fits u) (drop from s) None
   part_none some count short f i = place_is (fits u) s from i ∙ by (dec_lt i count)
     where
       by : Dec (i < count) → fits u (drop (from + i) s) ≡ false
       by (yes l) = f i l
       by (no l) = fits-short u (drop (from + i) s) (omega (arith, length-drop (from + i) s))
-
-  pub part-least : (i : ℕ) → true ≡ fits u (drop (from + i) s) → ((j : ℕ) → j < i → fits u (drop (from + j) s) ≡ false) → Found (fits u) (drop from s) (At i)
-  part-least i e f = record { here = place_is (fits u) s from i ∙ sym e; least = λ j l. place_is (fits u) s from j ∙ f j l }

@@ -9,40 +9,35 @@ ghost use Rattle.leftmost.specs.Leftmost.{Found};
 
 use cascades::{accepts, set_at};
 use limits::PATTERN;
-use places::Occurrence;
 
 // Whether the pattern u, with the first n of the sets, begins at the place i of s. It stops at the first tag that is not accepted.
 fn begins(s: &[u8], i: usize, u: &[u8], sets: &[u64; PATTERN], n: usize) -> bool
     requires { (i + length u.now ≤ length s.now) × (n ≤ longest_pattern) × (length sets.now ≡ longest_pattern) }
     ensures { result ≡ fits (places u.now (take n sets.now)) (drop i s.now) }
 {
-    let mut j = 0;
-    while j < u.len() {
+    for j in 0..u.len() {
         let set = set_at(sets, n, j);
         if !accepts(u[j], set, s[j + i]) {
             return false;
         }
-        j += 1;
     }
     true
 }
 
 // The least place at which that pattern begins in the part of s from `from` on, counted in the part; or nowhere.
-pub fn find(s: &[u8], from: usize, u: &[u8], sets: &[u64; PATTERN], n: usize) -> Occurrence
+pub fn find(s: &[u8], from: usize, u: &[u8], sets: &[u64; PATTERN], n: usize) -> Option<usize>
     requires { (0 < length u.now) × (from ≤ length s.now) × (n ≤ longest_pattern) × (length sets.now ≡ longest_pattern) }
     ensures { Found (fits (places u.now (take n sets.now))) (drop from s.now) result }
 {
     let room = s.len() - from;
     if room < u.len() {
-        return Occurrence::Nowhere;
+        return None;
     }
     let places = room - u.len() + 1;
-    let mut i = 0;
-    while i < places {
+    for i in 0..places {
         if begins(s, from + i, u, sets, n) {
-            return Occurrence::At(i);
+            return Some(i);
         }
-        i += 1;
     }
-    Occurrence::Nowhere
+    None
 }

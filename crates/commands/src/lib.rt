@@ -7,81 +7,75 @@ ghost use Rattle.answers.specs.declared.Refusal.TheVariants.{AtByte};
 ghost use Rattle.limits.specs.Limits.{InRange, most_rules, most_tags, longest_pattern};
 ghost use Rattle.limits.specs.declared.Limits.{Limits};
 ghost use Rattle.cascades.specs.Rule.{Kind};
-ghost use Rattle.books.specs.declared.Reading.{Reading};
+ghost use Rattle.books.specs.declared.Unread.{Unread};
 ghost use Rattle.books.specs.Book.{opener};
 ghost use Rattle.books.specs.Read.{Stage, read, closing, set_read};
-ghost use Rattle.books.specs.Arrays.{Arrays, arrays, holding, Shaped, rules_down};
+ghost use Rattle.books.specs.Arrays.{Arrays, arrays, Shaped, rules_down};
 ghost use Rattle.books.specs.Resume.{Resumes, NoRule, Opens, TagsRead, PlaceRead, PlacesRead, read_commands, ReadAs, number_at, faulted};
 
-use answers::Refusal;
-use books::{HEAD, PLACE, Place, Places, Reading, SETS, TAG, Tags};
-use limits::{Limits, PATTERN, RULES};
-use words::wide;
+use answers::{Reason, Refusal};
+use books::{Count, Head, Place, Places, Rules, Tags, Unread};
+use limits::{Limits, PATTERN};
 
-// The refusal of that number, which names the byte.
-pub fn refused(number: u8, byte: usize) -> Reading
-    ensures { result ≡ Reading.Refused (AtByte number byte) }
+// The refusal that names the byte, of a reading.
+pub fn refused(reason: Reason, byte: usize) -> Result<Count, Unread>
+    ensures { result ≡ Err (Unread.Refused (AtByte reason byte)) }
 {
-    Reading::Refused(Refusal::AtByte { number, byte })
+    Err(Unread::Refused(Refusal::AtByte(reason, byte)))
 }
 
-// The refusal that closing the last of m rules gives, 0 for none.
-fn closing_fault(
-    rows: &[[u8; PATTERN]; RULES],
-    lengths: &[usize; RULES],
-    heads: &[[u8; HEAD]; RULES],
-    sets: &[[u64; PATTERN]],
-    m: usize,
-) -> u8
-    requires shaped { Shaped (arrays rows lengths heads sets.now) }
+// Closes the last of m rules.
+fn close(rules: &Rules, sets: &[[u64; PATTERN]], m: usize) -> Result<(), Reason>
+    requires shaped { Shaped (arrays rules.now sets.now) }
     requires m_le_most_rules { m ≤ most_rules }
-    ensures { closing (rules_down (arrays rows.entry lengths.entry heads.entry sets.now) m) ≡ faulted result }
+    ensures { closing (rules_down (arrays rules.now sets.now) m) ≡ faulted result }
 {
     if m == 0 {
-        return 0;
+        return Ok(());
     }
     let last = m - 1;
-    let n = lengths[last];
+    let n = rules.lengths[last];
     if n == 0 {
-        return 3;
+        return Err(Reason::BadPattern);
     }
-    let p = wide(heads[last][PLACE]);
+    let head = rules.heads[last];
+    let p = usize::from(head.place);
     if n <= p {
-        return 5;
+        return Err(Reason::BadPlace);
     }
-    if p < wide(heads[last][SETS]) {
-        return 19;
+    if p < usize::from(head.sets) {
+        return Err(Reason::LateSet);
     }
-    if rows[last][p] == heads[last][TAG] {
-        return 6;
+    if rules.rows[last][p] == head.tag {
+        return Err(Reason::SameTag);
     }
-    0
+    Ok(())
 }
 
 // 20 and K.
-pub fn open_book(s: &[u8], lim: Limits) -> Reading
+pub fn open_book(s: &[u8], lim: Limits) -> Result<Count, Unread>
     requires { InRange lim }
     ensures resumes { (a : Arrays) → Shaped a → Resumes lim s.now (read lim s.now) 2 a result }
     ensures empty { NoRule result }
 {
     if s.len() == 0 {
-        return refused(1, 0);
+        return refused(Reason::BadCommand, 0);
     }
     if s[0] != 0x20 {
-        return refused(1, 0);
+        return refused(Reason::BadCommand, 0);
     }
     if s.len() == 1 {
-        return refused(1, 1);
+        return refused(Reason::BadCommand, 1);
     }
     let k = s[1];
-    let n = wide(k);
+    let n = usize::from(k);
     if n < limits::FEWEST_TAGS {
-        return refused(2, 1);
+        return refused(Reason::BadTagCount, 1);
     }
     if lim.tags < n {
-        return refused(2, 1);
+        return refused(Reason::BadTagCount, 1);
     }
-    Reading::Book { tags: k, rules: 0 }
+    Ok(Count { tags: k, rules: 0 })
 }
 
 // 00 at `at`: closes the last rule and the book.
@@ -90,24 +84,21 @@ pub fn end_book(
     at: usize,
     k: u8,
     m: usize,
-    rows: &[[u8; PATTERN]; RULES],
-    lengths: &[usize; RULES],
-    heads: &[[u8; HEAD]; RULES],
+    rules: &Rules,
     sets: &[[u64; PATTERN]],
-) -> Reading
-    requires shaped { Shaped (arrays rows lengths heads sets.now) }
+) -> Result<Count, Unread>
+    requires shaped { Shaped (arrays rules.now sets.now) }
     requires m_le_most_rules { (m ≤ most_rules) × (at < length s.now) × (get_or s.now at 0 ≡ 0) }
-    ensures { (lim : Limits) → ReadAs result (arrays rows.entry lengths.entry heads.entry sets.now) (read_commands lim s.now k m (arrays rows.entry lengths.entry heads.entry sets.now) at) }
+    ensures { (lim : Limits) → ReadAs result (arrays rules.now sets.now) (read_commands lim s.now k m (arrays rules.now sets.now) at) }
 {
-    let fault = closing_fault(rows, lengths, heads, sets, m);
-    if fault != 0 {
-        return refused(fault, at);
+    if let Err(reason) = close(rules, sets, m) {
+        return refused(reason, at);
     }
     let next = at + 1;
     if next < s.len() {
-        return refused(1, next);
+        return refused(Reason::BadCommand, next);
     }
-    Reading::Book { tags: k, rules: m }
+    Ok(Count { tags: k, rules: m })
 }
 
 // 21 or 24 at `at`: closes the last rule and opens another, of the command's kind.
@@ -116,47 +107,55 @@ pub fn open_rule(
     at: usize,
     k: u8,
     m: usize,
-    rows: &[[u8; PATTERN]; RULES],
-    lengths: &mut [usize; RULES],
-    heads: &mut [[u8; HEAD]; RULES],
+    rules: &mut Rules,
     sets: &[[u64; PATTERN]],
     lim: Limits,
-) -> Reading
-    requires shaped { Shaped (holding rows.now lengths.old heads.old sets.now) }
+) -> Result<Count, Unread>
+    requires shaped { Shaped (arrays rules.old sets.now) }
     requires m_le_most_rules { (m ≤ most_rules) × (at < length s.now) × ((kind : Kind) × (get_or s.now at 0 ≡ opener kind)) }
     requires in_range { InRange lim }
-    ensures resumes { Resumes lim s.now (read_commands lim s.now k m (holding rows.now lengths.old heads.old sets.now) at) (at + 1 + 1 + 1) (holding rows.now lengths.new heads.new sets.now) result }
-    ensures opens { Opens k m (holding rows.now lengths.new heads.new sets.now) result }
+    ensures resumes { Resumes lim s.now (read_commands lim s.now k m (arrays rules.old sets.now) at) (at + 1 + 1 + 1) (arrays rules.new sets.now) result }
+    ensures opens { Opens k m (arrays rules.new sets.now) result }
 {
-    let fault = closing_fault(rows, lengths, heads, sets, m);
-    if fault != 0 {
-        return refused(fault, at);
+    if let Err(reason) = close(rules, sets, m) {
+        return refused(reason, at);
     }
     if lim.rules <= m {
-        return refused(7, at);
+        return refused(Reason::TooManyRules, at);
     }
     let first = at + 1;
     if s.len() == first {
-        return refused(1, first);
+        return refused(Reason::BadCommand, first);
     }
     let second = first + 1;
     if s.len() == second {
-        return refused(1, second);
+        return refused(Reason::BadCommand, second);
     }
     let tag = s[second];
     if k <= tag {
-        return refused(4, second);
+        return refused(Reason::BadTag, second);
     }
-    lengths[m] = 0;
-    heads[m] = [s[first], tag, s[at], 0];
-    Reading::Book {
+    rules.lengths[m] = 0;
+    rules.heads[m] = Head {
+        place: s[first],
+        tag,
+        command: s[at],
+        sets: 0,
+    };
+    Ok(Count {
         tags: k,
         rules: m + 1,
-    }
+    })
 }
 
 // 22 at `from` and on: the tags of a pattern, into its row.
-pub fn read_tags(s: &[u8], from: usize, k: u8, row: &mut [u8; PATTERN], most: usize) -> Tags
+pub fn read_tags(
+    s: &[u8],
+    from: usize,
+    k: u8,
+    row: &mut [u8; PATTERN],
+    most: usize,
+) -> Result<Tags, Refusal>
     requires { (from ≤ length s.now) × (length row.old ≡ longest_pattern) × (most ≤ longest_pattern) }
     ensures { TagsRead s.now from k most row.new result }
 {
@@ -164,27 +163,24 @@ pub fn read_tags(s: &[u8], from: usize, k: u8, row: &mut [u8; PATTERN], most: us
     let mut n = 0;
     while at < s.len() {
         if s[at] != 0x22 {
-            return Tags::To { at, n };
+            return Ok(Tags { at, n });
         }
         if most <= n {
-            return Tags::Refused {
-                number: 3,
-                byte: at,
-            };
+            return Err(Refusal::AtByte(Reason::BadPattern, at));
         }
         let byte = at + 1;
         if s.len() == byte {
-            return Tags::Refused { number: 1, byte };
+            return Err(Refusal::AtByte(Reason::BadCommand, byte));
         }
         let tag = s[byte];
         if k <= tag {
-            return Tags::Refused { number: 4, byte };
+            return Err(Refusal::AtByte(Reason::BadTag, byte));
         }
         row[n] = tag;
         n += 1;
         at += 2;
     }
-    Tags::To { at, n }
+    Ok(Tags { at, n })
 }
 
 // The bytes of a set.
@@ -196,10 +192,8 @@ fn read_set(s: &[u8], at: usize) -> u64
     ensures { result ≡ number_at s.now at 6 }
 {
     let mut set = 0u64;
-    let mut i = 0;
-    while i < SET {
+    for i in 0..SET {
         set = set * 256 + set_byte(s, at, i);
-        i += 1;
     }
     set
 }
@@ -218,66 +212,62 @@ fn wider(x: u8) -> u64
     x as u64
 }
 
-// The refusal that a set over k tags gives, 0 for none.
-fn set_fault(k: u8, set: u64) -> u8
+// Whether a set over k tags is none of the book's.
+fn check_set(k: u8, set: u64) -> Result<(), Reason>
     requires { k ≤ most_tags }
     ensures { (next : Stage) → set_read k set next ≡ and_then (faulted result) (λ x. Outcome.result next) }
 {
     if set >> k != 0 {
-        return 4;
+        return Err(Reason::BadTag);
     }
     if u64::count_ones(set) < 2 {
-        return 18;
+        return Err(Reason::SmallSet);
     }
-    0
+    Ok(())
+}
+
+// The place of a pattern that 22 at `at` gives.
+fn read_tag(s: &[u8], at: usize, k: u8) -> Result<Place, Refusal>
+    requires { (at < length s.now) × (get_or s.now at 0 ≡ 0x22) }
+    ensures { PlaceRead s.now at k result }
+{
+    let byte = at + 1;
+    if s.len() == byte {
+        return Err(Refusal::AtByte(Reason::BadCommand, byte));
+    }
+    let tag = s[byte];
+    if k <= tag {
+        return Err(Refusal::AtByte(Reason::BadTag, byte));
+    }
+    Ok(Place {
+        tag,
+        set: 0,
+        at: byte + 1,
+    })
 }
 
 // The place of a pattern that 22 or 23 at `at` gives.
-fn read_place(s: &[u8], at: usize, k: u8) -> Place
+fn read_place(s: &[u8], at: usize, k: u8) -> Result<Place, Refusal>
     requires { (at < length s.now) × (k ≤ most_tags) × ((get_or s.now at 0 ≡ 0x22 → ⊥) → get_or s.now at 0 ≡ 0x23) }
     ensures { PlaceRead s.now at k result }
 {
     let first = at + 1;
     if s[at] == 0x22 {
-        if s.len() == first {
-            return Place::Refused {
-                number: 1,
-                byte: first,
-            };
-        }
-        let tag = s[first];
-        if k <= tag {
-            return Place::Refused {
-                number: 4,
-                byte: first,
-            };
-        }
-        return Place::To {
-            tag,
-            set: 0,
-            at: first + 1,
-        };
+        return read_tag(s, at, k);
     }
     if s.len() - at <= SET {
-        return Place::Refused {
-            number: 1,
-            byte: s.len(),
-        };
+        return Err(Refusal::AtByte(Reason::BadCommand, s.len()));
     }
     let set = read_set(s, first);
-    let fault = set_fault(k, set);
     let end = at + SET;
-    if fault != 0 {
-        return Place::Refused {
-            number: fault,
-            byte: end,
-        };
+    if let Err(reason) = check_set(k, set) {
+        return Err(Refusal::AtByte(reason, end));
     }
-    Place::To {
+    Ok(Place {
         tag: 0,
         set,
         at: end + 1,
-    }
+    })
 }
 
 // One more than the place of the last set, when the place before n is the set, or a tag, with 0 for a set.
@@ -311,7 +301,7 @@ pub fn read_places(
     row: &mut [u8; PATTERN],
     sets: &mut [u64; PATTERN],
     most: usize,
-) -> Places
+) -> Result<Places, Refusal>
     requires { (from ≤ length s.now) × (length row.old ≡ longest_pattern) × (length sets.old ≡ longest_pattern) × (most ≤ longest_pattern) × (k ≤ most_tags) }
     ensures { PlacesRead s.now from k most row.new sets.new result }
 {
@@ -319,29 +309,18 @@ pub fn read_places(
     let mut n = 0;
     let mut last = 0;
     while at < s.len() {
-        let command = s[at];
-        if ends_pattern(command) {
-            return Places::To { at, n, last };
+        if ends_pattern(s[at]) {
+            return Ok(Places { at, n, last });
         }
         if n == most {
-            return Places::Refused {
-                number: 3,
-                byte: at,
-            };
+            return Err(Refusal::AtByte(Reason::BadPattern, at));
         }
-        let place = read_place(s, at, k);
-        match place {
-            Place::Refused { number, byte } => {
-                return Places::Refused { number, byte };
-            }
-            Place::To { tag, set, at: next } => {
-                row[n] = tag;
-                sets[n] = set;
-                n += 1;
-                last = last_set(last, n, set);
-                at = next;
-            }
-        }
+        let place = read_place(s, at, k)?;
+        row[n] = place.tag;
+        sets[n] = place.set;
+        n += 1;
+        last = last_set(last, n, place.set);
+        at = place.at;
     }
-    Places::To { at, n, last }
+    Ok(Places { at, n, last })
 }

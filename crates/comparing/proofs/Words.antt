@@ -1,12 +1,12 @@
--- Words in buffers: put there tag by tag and one after the other, and compared.
+-- Words in buffers: put there tag by tag and one after the other.
 use Prim.Native.Nat.{ℕ, ◌+◌, ◌≤◌, ◌<◌}
 use native.Mathlib.Nat.{zero-add}
 use native.Mathlib.Numerals.{add-one}
 use native.Mathlib.Omega.{arith}
-use mathlib.Core.Path.{◌≡◌, refl, sym, ap, ◌∙◌}
+use mathlib.Core.Path.{◌≡◌, sym, ap, ◌∙◌}
 use mathlib.Core.List.{List, ◌++◌, append_assoc}
 use lib.ListN.{length, take, get_or, set, length-append}
-use lib.Seq.{take-suc, take-length, get_or-take, length-take-le, paste, paste-suc, take-paste}
+use lib.Seq.{take-length, get_or-take, length-take-le, paste, paste-suc, take-paste}
 use Rattle.steps.specs.Entry.{TagsAt}
 use Rattle.comparing.specs.Step.{FrontPut}
 
@@ -44,12 +44,3 @@ front-stands bs w place n h st =
       tags = λ j l. let lt : j < n = omega (arith, length-take-le n w h) in st.tags j (omega arith) ∙ sym (get_or-take n w j 0 lt);
       inside = omega (arith, st.inside, length-take-le n w h);
     }
-
--- fronts are the same as far as one tag more
-pub front-next : (u v : List ℕ) (i : ℕ) → i < length u → i < length v → get_or u i 0 ≡ get_or v i 0 → take i u ≡ take i v → take (i + 1) u ≡ take (i + 1) v
-front-next u v i hu hv e same = rw (add-one i, take-suc u i 0 hu, take-suc v i 0 hv, e, same) refl
-
--- a tag in which they differ
-pub front-apart : (u v : List ℕ) (i n : ℕ) → i < n → (get_or u i 0 ≡ get_or v i 0 → ⊥) → take n u ≡ take n v → ⊥
-front-apart u v i n h apart same =
-    apart (sym (get_or-take n u i 0 h) ∙ ap (λ (l : List ℕ). get_or l i 0) same ∙ get_or-take n v i 0 h)

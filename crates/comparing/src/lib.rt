@@ -36,22 +36,10 @@ fn put_cells(
     requires count_bound { (count ≤ at g work.now r c s) × (from + count ≤ length out.old) }
     ensures { out.new ≡ paste out.old from (word g work.now r c s) count }
 {
-    let mut i = 0;
-    while i < count {
+    for i in 0..count {
         let tag = get(work, g, r, c, s + i + 1);
         out[from + i] = encoder::byte(tag);
-        i += 1;
     }
-}
-
-// How much a number is greater than another, 0 if it is not.
-fn excess(a: usize, b: usize) -> usize
-    ensures { result ≡ a - b }
-{
-    if a < b {
-        return 0;
-    }
-    a - b
 }
 
 // The cell of a state's final word in the index of a table over k tags.
@@ -120,7 +108,7 @@ fn put_left(
     ensures { (t : Table) → Indexed g.tags t table.now index.now → p < length t → LeftPut (shape t) (standing g work.now 0 n) p q a out.new result }
 {
     let held = count_of(entry_of(index, p, 0, g.tags));
-    let ahead = excess(get(work, g, q, g.tags, FINAL), held);
+    let ahead = get(work, g, q, g.tags, FINAL).saturating_sub(held);
     put_cells(work, g, q, g.tags, FINAL, ahead, out, 0);
     let e = entry_of(index, p, a + 1, g.tags);
     put_step(table, index, e, out, ahead)
@@ -142,24 +130,9 @@ fn put_right(
     ensures { (t : Table) → Indexed g.tags t table.now index.now → p < length t → RightPut (shape t) (standing g work.now 0 n) p q a out.new result }
 {
     let f = entry_of(index, p, 0, g.tags);
-    let ahead = excess(count_of(f), get(work, g, q, g.tags, FINAL));
+    let ahead = count_of(f).saturating_sub(get(work, g, q, g.tags, FINAL));
     put_word(table, place_of(f), ahead, out, 0);
     put_row(work, g, n, q, a, out, ahead)
-}
-
-// Whether the first n tags are the same.
-fn same_front(left: &[u8], right: &[u8], n: usize) -> bool
-    requires { (n ≤ length left.now) × (n ≤ length right.now) }
-    ensures { Decides result (take n left.now ≡ take n right.now) }
-{
-    let mut i = 0;
-    while i < n {
-        if left[i] != right[i] {
-            return false;
-        }
-        i += 1;
-    }
-    true
 }
 
 // Whether both put out the same at the tag a, from the states p and q to which a word leads them of which they make the same.
@@ -183,5 +156,5 @@ pub fn step_agrees(
     if count != put_right(table, index, work, g, n, p, q, a, right) {
         return false;
     }
-    same_front(left, right, count)
+    left[..count] == right[..count]
 }

@@ -26,20 +26,21 @@ use Rattle.books.specs.Arrays.{Arrays, rules_of, cascade_of}
 use Rattle.books.specs.Read.{read}
 use Rattle.books.specs.Ending.{fitted, read_ending}
 use Rattle.books.specs.Resume.{ReadAs, Whole}
-use Rattle.books.specs.declared.Reading.{Reading}
-use Rattle.books.specs.declared.Reading.TheVariants.{Book, Sets}
+use Rattle.books.specs.declared.Count.{Count}
+use Rattle.books.specs.declared.Unread.{Unread}
+use Rattle.books.specs.declared.Unread.TheVariants.{Refused, Sets}
+use Rattle.std.specs.Prelude.{Result, Ok, Err}
 use Rattle.books.proofs.Encode.{reads_exactly}
 use Rattle.books.proofs.Held.{rules-long, was_refused, was_read, rules-held}
 use Rattle.compilation.specs.Compile.{entries, roomed, tested, built, compile_answer}
 use Rattle.workspace.specs.declared.Grid.{Grid}
 use Rattle.workspace.specs.Cells.{ix, at, Kept, InRows}
 use Rattle.workspace.proofs.Places.{ix-below}
-use Rattle.answers.specs.Answer.{compile_outcome}
+use Rattle.answers.specs.Answer.{outcome_of, number_of}
 use Rattle.compiler.specs.Answer.{worked}
 use Rattle.compiler.specs.Rows.{grid_of}
 use Rattle.builder.specs.Rules.{Gave, Readable, Compilable}
 use Rattle.compiler.specs.Ended.{Ended}
-use Rattle.answers.specs.declared.CompileAnswer.{CompileAnswer}
 
 -- ---- the numbers
 
@@ -129,7 +130,7 @@ beyond g W X deep kept =
 -- ---- the stages
 
 -- a refusal that comes before a state is built: nothing is written
-pub refused-ended : (lim : Limits) (t : Outcome Cascade) (n j : ℕ) (p : Place) → t ≡ refused j p → (r : CompileAnswer) → compile_outcome r ≡ refused j p
+pub refused-ended : (lim : Limits) (t : Outcome Cascade) (n j : ℕ) (p : Place) → t ≡ refused j p → (r : Result ℕ Refusal) → outcome_of r ≡ refused j p
     → (W out : List ℕ) → Ended lim t n W W out out r
 refused-ended lim t n j p e r f W out = record { gave = record { answered = cc (e, f); wrote = cc (e) }; worked_is = cc (e) }
 
@@ -150,7 +151,7 @@ module _ (lim : Limits) (k ceiling end m : ℕ) (a : Arrays) (s : ℕ) (is : s �
   pub with_end : bad_end (read_with k end) ≡ false → (l : ℕ) → l ≡ end → bad_end (read_with k l) ≡ false
   with_end fits l f = ap (λ (i : ℕ). bad_end (read_with k i)) f ∙ fits
 
-  pub short : (W out : List ℕ) → length W < all → (r : CompileAnswer) → compile_outcome r ≡ refused 9 nothing
+  pub short : (W out : List ℕ) → length W < all → (r : Result ℕ Refusal) → outcome_of r ≡ refused 9 nothing
       → Ended lim (roomed lim ceiling (length W) (read_with k end)) ceiling W W out out r
   short W out h r f =
       let c = read_with k end in
@@ -158,7 +159,7 @@ module _ (lim : Limits) (k ceiling end m : ℕ) (a : Arrays) (s : ℕ) (is : s �
       let is : roomed lim ceiling (length W) c ≡ refused 9 nothing = cc (lt-leb (entries lim ceiling c) (length W) less) in
       refused-ended lim (roomed lim ceiling (length W) c) ceiling 9 nothing is r f W out
 
-  pub ended : (l : ℕ) → l ≡ end → (W X Y out after : List ℕ) (r : CompileAnswer) → all ≤ length W
+  pub ended : (l : ℕ) → l ≡ end → (W X Y out after : List ℕ) (r : Result ℕ Refusal) → all ≤ length W
       → Gave (built ceiling (length out) (read_with g.tags l)) out after r
       → Kept g W X (InRows 0 g.rows) → Y ≡ replicate all 0 ++ drop all X
       → Ended lim (roomed lim ceiling (length W) (read_with k end)) ceiling W Y out after r
@@ -189,7 +190,7 @@ module _ (lim : Limits) (ceiling end work : ℕ) (c : Cascade) (b : Bool) (is : 
   pub fitting-end : b ≡ false → bad_end (ending end c) ≡ false
   fitting-end h = sym is ∙ h
 
-  pub fits-ended : b ≡ false → (W X before after : List ℕ) (r : CompileAnswer) → Ended lim (roomed lim ceiling work (ending end c)) ceiling W X before after r
+  pub fits-ended : b ≡ false → (W X before after : List ℕ) (r : Result ℕ Refusal) → Ended lim (roomed lim ceiling work (ending end c)) ceiling W X before after r
       → Ended lim (and_then (fitted end c) (roomed lim ceiling work)) ceiling W X before after r
   fits-ended h W X before after r = subst (λ (o : Outcome Cascade). Ended lim o ceiling W X before after r) (sym (ap told (sym is ∙ h)))
 
@@ -215,41 +216,41 @@ module _ (lim : Limits) (ranged : InRange lim) (book : List ℕ) (end n work : �
     goes_on : tested lim book end n work ≡ and_then (and_then (read lim book) (fitted end)) (roomed lim n work)
     goes_on = tested-is true (from_one low true (le-leb n most_states high))
 
-    module _ (a : Arrays) (r : Reading) (w : Whole lim book a r) where
-      pub book_refused : (x : Refusal) → r ≡ Reading.Refused x → (q : CompileAnswer) → compile_outcome q ≡ refusal x
+    module _ (a : Arrays) (r : Result Count Unread) (w : Whole lim book a r) where
+      pub book_refused : (x : Refusal) → r ≡ Err (Refused x) → (q : Result ℕ Refusal) → outcome_of q ≡ refusal x
           → (W out : List ℕ) → Ended lim (tested lim book end n work) n W W out out q
       book_refused x f q g W out = by x (was_refused book a r w x f) g
         where
           stays : (j : ℕ) (p : Place) → read lim book ≡ refused j p → tested lim book end n work ≡ refused j p
           stays j p e = goes_on ∙ ap (λ (c : Outcome Cascade). and_then (and_then c (fitted end)) (roomed lim n work)) e
 
-          by : (x : Refusal) → read lim book ≡ refusal x → compile_outcome q ≡ refusal x → Ended lim (tested lim book end n work) n W W out out q
-          by (AtByte j p) e g = refused-ended lim (tested lim book end n work) n j _ (stays j _ e) q g W out
-          by (AtRule j p) e g = refused-ended lim (tested lim book end n work) n j _ (stays j _ e) q g W out
-          by (Bare j) e g = refused-ended lim (tested lim book end n work) n j _ (stays j _ e) q g W out
+          by : (x : Refusal) → read lim book ≡ refusal x → outcome_of q ≡ refusal x → Ended lim (tested lim book end n work) n W W out out q
+          by (AtByte j p) e g = refused-ended lim (tested lim book end n work) n (number_of j) _ (stays (number_of j) _ e) q g W out
+          by (AtRule j p) e g = refused-ended lim (tested lim book end n work) n (number_of j) _ (stays (number_of j) _ e) q g W out
+          by (Bare j) e g = refused-ended lim (tested lim book end n work) n (number_of j) _ (stays (number_of j) _ e) q g W out
 
-      module _ (k m : ℕ) (f : r ≡ Book k m) where
-        pub read-readable : Readable lim k n m a
+      module _ (b : Count) (f : r ≡ Ok b) where
+        pub read-readable : Readable lim b.tags n b.rules a
         read-readable =
-            let v = ((reads_exactly book (cascade_of k a m)).0 (was_read book a r w k m f)).0 in
-            record { ranged = ranged; some = low; most = high; tags = v.few_tags; held = rules-held book a r w k m f ranged }
+            let v = ((reads_exactly book (cascade_of b.tags a b.rules)).0 (was_read book a r w b f)).0 in
+            record { ranged = ranged; some = low; most = high; tags = v.few_tags; held = rules-held book a r w b f ranged }
 
-        pub book_ended : (W X out after : List ℕ) (q : CompileAnswer) → length W ≡ work
-            → Ended lim (and_then (fitted end (cascade_of k a m)) (roomed lim n (length W))) n W X out after q → Ended lim (tested lim book end n work) n W X out after q
+        pub book_ended : (W X out after : List ℕ) (q : Result ℕ Refusal) → length W ≡ work
+            → Ended lim (and_then (fitted end (cascade_of b.tags a b.rules)) (roomed lim n (length W))) n W X out after q → Ended lim (tested lim book end n work) n W X out after q
         book_ended W X out after q lw h =
-            let is : and_then (fitted end (cascade_of k a m)) (roomed lim n (length W)) ≡ tested lim book end n work =
-            ap (λ (i : ℕ). and_then (fitted end (cascade_of k a m)) (roomed lim n i)) lw
-            ∙ ap (λ (c : Outcome Cascade). and_then (and_then c (fitted end)) (roomed lim n work)) (sym (was_read book a r w k m f))
+            let is : and_then (fitted end (cascade_of b.tags a b.rules)) (roomed lim n (length W)) ≡ tested lim book end n work =
+            ap (λ (i : ℕ). and_then (fitted end (cascade_of b.tags a b.rules)) (roomed lim n i)) lw
+            ∙ ap (λ (c : Outcome Cascade). and_then (and_then c (fitted end)) (roomed lim n work)) (sym (was_read book a r w b f))
             ∙ sym goes_on
             in
             subst (λ (o : Outcome Cascade). Ended lim o n W X out after q) is h
 
 -- a set was met that there is no room for
-pub no_room : {lim : Limits} (book : List ℕ) (a : Arrays) (r : Reading) → Whole lim book a r → r ≡ Sets → length a.sets ≡ 0
-no_room {lim} book a r w e = subst (λ (x : Reading). ReadAs x a (read lim book)) e w.outcome
+pub no_room : {lim : Limits} (book : List ℕ) (a : Arrays) (r : Result Count Unread) → Whole lim book a r → r ≡ Err Sets → length a.sets ≡ 0
+no_room {lim} book a r w e = subst (λ (x : Result Count Unread). ReadAs x a (read lim book)) e w.outcome
 
 -- and the call has begun again with the same slices
-pub again_ended : (lim : Limits) (book : List ℕ) (end n : ℕ) (U W X out before after : List ℕ) (r : CompileAnswer) → U ≡ W → out ≡ before
+pub again_ended : (lim : Limits) (book : List ℕ) (end n : ℕ) (U W X out before after : List ℕ) (r : Result ℕ Refusal) → U ≡ W → out ≡ before
     → Ended lim (tested lim book end n (length U)) n U X out after r → Ended lim (tested lim book end n (length W)) n W X before after r
 again_ended lim book end n U W X out before after r e f h =
     subst (λ (x : List ℕ). Ended lim (tested lim book end n (length W)) n W X x after r) f
@@ -260,7 +261,7 @@ pub out_of_range : (lim : Limits) (book : List ℕ) (end n work : ℕ) → in_ra
 out_of_range lim book end n work = without_is lim (provided 8 (leb 1 n && leb n most_states) (and_then (read_ending lim book end) (roomed lim n work)))
 
 -- the three equations of the call
-pub all_three : (lim : Limits) (book : List ℕ) (end n work : ℕ) {W X before after : List ℕ} {r : CompileAnswer} → Ended lim (tested lim book end n work) n W X before after r
-    → (compile_outcome r ≡ long_of (compile_answer lim book end n work (length before)))
+pub all_three : (lim : Limits) (book : List ℕ) (end n work : ℕ) {W X before after : List ℕ} {r : Result ℕ Refusal} → Ended lim (tested lim book end n work) n W X before after r
+    → (outcome_of r ≡ long_of (compile_answer lim book end n work (length before)))
     × ((after ≡ written (compile_answer lim book end n work (length before)) before) × (X ≡ worked lim n (tested lim book end n work) W))
 all_three lim book end n work h = (h.gave.answered, (h.gave.wrote, h.worked_is))

@@ -3,13 +3,13 @@
 
 ghost use Rattle.std.specs.Prelude.{◌≡◌, false, ◌+◌, ◌*◌, ◌≤◌, ◌++◌, length, drop, replicate};
 ghost use Rattle.answers.specs.Slice.{long_of, written};
-ghost use Rattle.answers.specs.Answer.{compile_outcome};
+ghost use Rattle.answers.specs.Answer.{outcome_of};
 ghost use Rattle.limits.specs.Limits.{no_end, most_states, most_rules, most_tags, InRange};
 ghost use Rattle.answers.specs.Outcome.{and_then};
 ghost use Rattle.cascades.specs.Rule.{ending};
 ghost use Rattle.cascades.specs.Ending.{bad_end};
 ghost use Rattle.books.specs.Arrays.{arrays, cascade_of, SetRows};
-ghost use Rattle.books.specs.Resume.{Unless};
+ghost use Rattle.books.specs.Tried.{Tried};
 ghost use Rattle.books.specs.Ending.{fitted};
 ghost use Rattle.compilation.specs.Compile.{roomed, tested, compile_answer};
 ghost use Rattle.builder.specs.Rules.{Readable};
@@ -17,10 +17,9 @@ ghost use Rattle.compiler.specs.Answer.{worked};
 ghost use Rattle.compiler.specs.Rows.{grid_of};
 ghost use Rattle.compiler.specs.Ended.{Ended};
 
-use answers::{CompileAnswer, Refusal};
-use books::{HEAD, Reading};
+use answers::{Reason, Refusal};
+use books::{Rules, Unread};
 use limits::{LEAST_DEPTH, Limits, PATTERN, RULES, STATES};
-use words::wide;
 use workspace::Grid;
 
 // The first n entries become zero.
@@ -28,11 +27,7 @@ pub fn wipe(work: &mut [u16], n: usize)
     requires { n ≤ length work.old }
     ensures { work.new ≡ replicate n 0 ++ drop n work.old }
 {
-    let mut i = 0;
-    while i < n {
-        work[i] = 0;
-        i += 1;
-    }
+    work[..n].fill(0);
 }
 
 // The rows of the work slice for a ceiling and m rules over k tags, whose transducers have at most so many states.
@@ -43,7 +38,7 @@ pub fn grid_of(states: usize, k: u8, ceiling: usize, m: usize, lim: Limits) -> G
     let holds = lim.pattern - 1;
     Grid {
         rows: 2 * (states + 1) * ceiling,
-        tags: wide(k),
+        tags: usize::from(k),
         depth: holds * m + LEAST_DEPTH,
     }
 }
@@ -63,28 +58,24 @@ fn compile_read(
     end: u8,
     k: u8,
     m: usize,
-    rows: &[[u8; PATTERN]; RULES],
-    lengths: &[usize; RULES],
-    heads: &[[u8; HEAD]; RULES],
+    rules: &Rules,
     sets: &[[u64; PATTERN]],
     out: &mut [u8],
     lim: Limits,
-) -> CompileAnswer
-    requires readable { Readable lim k ceiling m (arrays rows lengths heads sets.now) }
-    requires m_value { bad_end (ending end (cascade_of k (arrays rows lengths heads sets.now) m)) ≡ false }
-    ensures { Ended lim (roomed lim ceiling (length work.old) (ending end (cascade_of k (arrays rows.entry lengths.entry heads.entry sets.now) m))) ceiling work.old work.new out.old out.new result }
+) -> Result<usize, Refusal>
+    requires readable { Readable lim k ceiling m (arrays rules.now sets.now) }
+    requires m_value { bad_end (ending end (cascade_of k (arrays rules.now sets.now) m)) ≡ false }
+    ensures { Ended lim (roomed lim ceiling (length work.old) (ending end (cascade_of k (arrays rules.now sets.now) m))) ceiling work.old work.new out.old out.new result }
 {
-    let some = reader::some_set(rows, lengths, heads, sets, m);
+    let some = reader::some_set(rules, sets, m);
     let states = limits::rule_states(lim, some);
     let g = grid_of(states, k, ceiling, m, lim);
     let entries = entries_of(g);
     if work.len() < entries {
-        return CompileAnswer::Refused(Refusal::Bare { number: 9 });
+        return Err(Refusal::Bare(Reason::ShortWork));
     }
-    let last = wide(end);
-    let answer = builder::build(
-        work, g, ceiling, last, m, rows, lengths, heads, sets, out, states, lim,
-    );
+    let last = usize::from(end);
+    let answer = builder::build(work, g, ceiling, last, m, rules, sets, out, states, lim);
     wipe(work, entries);
     answer
 }
@@ -96,26 +87,22 @@ fn compile_rules(
     end: u8,
     k: u8,
     m: usize,
-    rows: &[[u8; PATTERN]; RULES],
-    lengths: &[usize; RULES],
-    heads: &[[u8; HEAD]; RULES],
+    rules: &Rules,
     sets: &[[u64; PATTERN]],
     out: &mut [u8],
     lim: Limits,
-) -> CompileAnswer
-    requires { Readable lim k ceiling m (arrays rows lengths heads sets.now) }
-    ensures { Ended lim (and_then (fitted end (cascade_of k (arrays rows.entry lengths.entry heads.entry sets.now) m)) (roomed lim ceiling (length work.old))) ceiling work.old work.new out.old out.new result }
+) -> Result<usize, Refusal>
+    requires { Readable lim k ceiling m (arrays rules.now sets.now) }
+    ensures { Ended lim (and_then (fitted end (cascade_of k (arrays rules.now sets.now) m)) (roomed lim ceiling (length work.old))) ceiling work.old work.new out.old out.new result }
 {
-    if endings::bad_end(k, rows, lengths, heads, sets, m, end) {
-        return CompileAnswer::Refused(Refusal::Bare { number: 14 });
+    if endings::bad_end(k, rules, sets, m, end) {
+        return Err(Refusal::Bare(Reason::BadEnd));
     }
-    compile_read(
-        work, ceiling, end, k, m, rows, lengths, heads, sets, out, lim,
-    )
+    compile_read(work, ceiling, end, k, m, rules, sets, out, lim)
 }
 
 // Compiles a book with limits and a ceiling that are in their ranges: the book's refusals, and the same. Where the rows have no room for sets and the
-// book has one, `met` becomes true, and the answer says nothing.
+// book has one, nothing is done.
 fn compile_book(
     book: &[u8],
     end: u8,
@@ -123,25 +110,44 @@ fn compile_book(
     work: &mut [u16],
     out: &mut [u8],
     sets: &mut [[u64; PATTERN]],
-    met: &mut bool,
     lim: Limits,
-) -> CompileAnswer
-    requires { InRange lim × (1 ≤ ceiling) × (ceiling ≤ most_states) × SetRows sets.old × (met.old ≡ false) }
-    ensures { Unless met.new ((length sets.old ≡ 0) × (work.new ≡ work.old) × (out.new ≡ out.old)) (Ended lim (tested lim book.now end ceiling (length work.old)) ceiling work.old work.new out.old out.new result) }
+) -> Result<usize, Unread>
+    requires { InRange lim × (1 ≤ ceiling) × (ceiling ≤ most_states) × SetRows sets.old }
+    ensures { Tried result (Ended lim (tested lim book.now end ceiling (length work.old)) ceiling work.old work.new out.old out.new) ((length sets.old ≡ 0) × (work.new ≡ work.old) × (out.new ≡ out.old)) }
 {
-    let mut rows = [[0u8; PATTERN]; RULES];
-    let mut lengths = [0usize; RULES];
-    let mut heads = [[0u8; HEAD]; RULES];
-    let got = reader::read_into(book, &mut rows, &mut lengths, &mut heads, sets, lim);
-    match got {
-        Reading::Refused(refusal) => CompileAnswer::Refused(refusal),
-        Reading::Sets => {
-            *met = true;
-            CompileAnswer::Table(0)
-        }
-        Reading::Book { tags: k, rules } => compile_rules(
-            work, ceiling, end, k, rules, &rows, &lengths, &heads, sets, out, lim,
-        ),
+    let mut rules = Rules::new();
+    let count = reader::read_into(book, &mut rules, sets, lim)?;
+    let size = compile_rules(
+        work,
+        ceiling,
+        end,
+        count.tags,
+        count.rules,
+        &rules,
+        sets,
+        out,
+        lim,
+    )?;
+    Ok(size)
+}
+
+// The same with room for sets.
+fn compile_sets(
+    book: &[u8],
+    end: u8,
+    ceiling: usize,
+    work: &mut [u16],
+    out: &mut [u8],
+    lim: Limits,
+) -> Result<usize, Refusal>
+    requires { InRange lim × (1 ≤ ceiling) × (ceiling ≤ most_states) }
+    ensures { Ended lim (tested lim book.now end ceiling (length work.old)) ceiling work.old work.new out.old out.new result }
+{
+    let mut sets = [[0u64; PATTERN]; RULES];
+    match compile_book(book, end, ceiling, work, out, &mut sets[..], lim) {
+        Ok(size) => Ok(size),
+        Err(Unread::Refused(refusal)) => Err(refusal),
+        Err(Unread::Sets) => unreachable!(),
     }
 }
 
@@ -153,25 +159,22 @@ fn compile_within(
     work: &mut [u16],
     out: &mut [u8],
     lim: Limits,
-) -> CompileAnswer
+) -> Result<usize, Refusal>
     requires { InRange lim }
     ensures { Ended lim (tested lim book.now end ceiling (length work.old)) ceiling work.old work.new out.old out.new result }
 {
     if ceiling < 1 {
-        return CompileAnswer::Refused(Refusal::Bare { number: 8 });
+        return Err(Refusal::Bare(Reason::BadCeiling));
     }
     if STATES < ceiling {
-        return CompileAnswer::Refused(Refusal::Bare { number: 8 });
+        return Err(Refusal::Bare(Reason::BadCeiling));
     }
     let mut none = [[0u64; PATTERN]; 0];
-    let mut met = false;
-    let answer = compile_book(book, end, ceiling, work, out, &mut none[..], &mut met, lim);
-    if met {
-        let mut sets = [[0u64; PATTERN]; RULES];
-        let mut again = false;
-        return compile_book(book, end, ceiling, work, out, &mut sets, &mut again, lim);
+    match compile_book(book, end, ceiling, work, out, &mut none[..], lim) {
+        Ok(size) => Ok(size),
+        Err(Unread::Refused(refusal)) => Err(refusal),
+        Err(Unread::Sets) => compile_sets(book, end, ceiling, work, out, lim),
     }
-    answer
 }
 
 // Compiles a book whose sentences an end tag ends (255 for none): the number of bytes of its smallest table, which stands at the front of
@@ -183,15 +186,15 @@ pub fn compile_ending(
     work: &mut [u16],
     out: &mut [u8],
     lim: Limits,
-) -> CompileAnswer
-    ensures answer { compile_outcome result ≡ long_of (compile_answer lim book.now end ceiling (length work.old) (length out.old)) }
+) -> Result<usize, Refusal>
+    ensures answer { outcome_of result ≡ long_of (compile_answer lim book.now end ceiling (length work.old) (length out.old)) }
     ensures out { out.new ≡ written (compile_answer lim book.now end ceiling (length work.old) (length out.old)) out.old }
     ensures work { work.new ≡ worked lim ceiling (tested lim book.now end ceiling (length work.old)) work.old }
 {
     if limits::in_range(lim) {
         return compile_within(book, end, ceiling, work, out, lim);
     }
-    CompileAnswer::Refused(Refusal::Bare { number: 17 })
+    Err(Refusal::Bare(Reason::BadLimit))
 }
 
 // The same with no end tag.
@@ -201,8 +204,8 @@ pub fn compile(
     work: &mut [u16],
     out: &mut [u8],
     lim: Limits,
-) -> CompileAnswer
-    ensures answer { compile_outcome result ≡ long_of (compile_answer lim book.now no_end ceiling (length work.old) (length out.old)) }
+) -> Result<usize, Refusal>
+    ensures answer { outcome_of result ≡ long_of (compile_answer lim book.now no_end ceiling (length work.old) (length out.old)) }
     ensures out { out.new ≡ written (compile_answer lim book.now no_end ceiling (length work.old) (length out.old)) out.old }
     ensures work { work.new ≡ worked lim ceiling (tested lim book.now no_end ceiling (length work.old)) work.old }
 {

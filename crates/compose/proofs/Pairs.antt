@@ -202,9 +202,6 @@ module _ (g : Grid) (W : List ℕ) (first n second m base : ℕ) (ok : Composabl
             (grown_by g base (n * m) (Cell (base + i) a OUTPUT) W X len list ran.wrote.kept (λ j e lo hi p. omega (arith, p.1)))
             (λ r c e p. inl (p.0, p.1, omega arith))
 
-        pub run-list : Worklist g X base (n * m) len
-        run-list = run-grown.list
-
         -- the pair of the next states has got a state
         module _ (Y : List ℕ) (more : ℕ) (entered : Entered g X Y base (n * m) len (next * m + to) more) (state : ℕ)
             (placed : Member g Y base more (next * m + to) state) where

@@ -10,10 +10,10 @@ use Rattle.transducers.specs.Transducer.{Shape}
 use Rattle.workspace.specs.declared.Grid.{Grid}
 use Rattle.workspace.specs.Entries.{NEXT, OUTPUT, FINAL}
 use Rattle.workspace.specs.Cells.{at, Kept, Cell, InRows, Written, Fits}
-use Rattle.workspace.proofs.Regions.{kept-none, kept_then, kept_wider}
+use Rattle.workspace.proofs.Regions.{kept_then, kept_wider}
 use Rattle.workspace.proofs.Words.{word_kept}
 use Rattle.worklist.specs.Worklist.{member_of, Worklist, Grown}
-use Rattle.worklist.proofs.Marks.{grown-none, grown_then, grown_wider, grown_by}
+use Rattle.worklist.proofs.Marks.{grown_then, grown_wider, grown_by}
 use Rattle.compose.specs.Pairs.{Leads, StepNotes, RowNotes, StepPaired, StepsPaired, State, RowPaired}
 
 -- the states below i do what their pairs do
@@ -40,13 +40,6 @@ module _ (g : Grid) (base total : ℕ) (P : ℕ → ℕ → ℕ → Type 0) wher
 module _ (g : Grid) (base total : ℕ) (S : Shape) where
   -- the steps of a row
   module _ (W : List ℕ) (len i s : ℕ) where
-    pub steps-start : Worklist g W base total len → StepsPaired g W W base total len i s S 0 len
-    steps-start p =
-        record {
-          grown = grown-none g base total (RowNotes g base total i) W len p;
-          steps = λ b h. absurd (omega arith);
-        }
-
     pub steps_next : (X Y : List ℕ) (a mid to : ℕ) → a < g.tags → StepsPaired g W X base total len i s S a mid → StepPaired g X Y base total mid i s S a to
         → StepsPaired g W Y base total len i s S (a + 1) to
     steps_next X Y a mid to ha m new =
@@ -91,10 +84,6 @@ module _ (g : Grid) (base total : ℕ) (S : Shape) where
 
   -- the rows
   module _ (W : List ℕ) where
-    pub searching-start : Worklist g W base total 1 → Searching g W W base total S 0 1
-    searching-start p =
-        record { kept = kept-none g (InRows base (base + total)) W; list = p; here = omega arith; states = λ q h. absurd (omega arith) }
-
     pub searching-next : (X Y : List ℕ) (i len s to : ℕ) → i < len → s ≡ member_of g X base i → Searching g W X base total S i len
         → RowPaired g X Y base total len i s S to → Searching g W Y base total S (i + 1) to
     searching-next X Y i len s to h is m new =

@@ -2,7 +2,7 @@
 use Prim.Native.Nat.{ℕ, suc, ◌+◌, ◌≤◌, ◌<◌}
 use native.Mathlib.Omega.{arith}
 use native.Mathlib.Numerals.{add-one}
-use mathlib.Core.Path.{◌≡◌, refl, sym, ap, ap₂, ◌∙◌}
+use mathlib.Core.Path.{◌≡◌, sym, ap, ap₂, ◌∙◌}
 use mathlib.Core.List.{List, [], ◌++◌, append_assoc, append-nil}
 use lib.ListN.{length, get_or, drop, length-append, drop_of_length-le}
 use lib.Seq.{drop-cons}
@@ -14,7 +14,7 @@ use Rattle.workspace.specs.declared.Grid.{Grid}
 use Rattle.workspace.specs.Entries.{NEXT, OUTPUT}
 use Rattle.workspace.specs.Cells.{at, word, Inner, Kept, Cell, Got, Written, Fits}
 use Rattle.workspace.specs.Holds.{StepAt, Holds, table_at, standing}
-use Rattle.workspace.proofs.Regions.{kept-none, kept_then, sized-kept}
+use Rattle.workspace.proofs.Regions.{kept_then, sized-kept}
 use Rattle.workspace.proofs.Words.{word-length, word_kept, tag-kept}
 use Rattle.workspace.proofs.Holds.{holds_kept, length_at, table-at}
 use Rattle.compose.specs.Runs.{Runs, Arrived}
@@ -38,9 +38,6 @@ pub record Reading (g : Grid) (W X : List ℕ) (base m r c s r2 c2 s2 i state ta
   pub other : (base + state ≡ r2) → (tag ≡ c2) → ⊥
 
 module _ (g : Grid) (W : List ℕ) (base m q r c s r2 c2 s2 : ℕ) (ok : Runs g W base m q r c s r2 c2 (s2 + at g W r2 c2 s2)) where
-  pub running-start : Running g W W base m q r c s r2 c2 s2 0 q
-  running-start = record { low = omega arith; state-below = ok.state; kept = kept-none g (Cell r2 c2 s2) W; ends = refl; is = refl }
-
   -- the transducer's rows stay
   holds_on : (X : List ℕ) → Kept g W X (Cell r2 c2 s2) → Holds g X base (table_at g W base m)
   holds_on X k =

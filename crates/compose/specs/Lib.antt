@@ -2,3 +2,4 @@
 pub mod Runs
 pub mod Pairs
 pub mod Composed
+pub mod Products

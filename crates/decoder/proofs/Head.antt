@@ -2,32 +2,25 @@
 use Prim.Native.Nat.{ℕ, ◌<◌, ◌≤◌}
 use native.Mathlib.Omega.{arith}
 use mathlib.Core.Path.{◌≡◌, refl, ap, ◌∙◌}
-use mathlib.Core.Bool.{Bool, true, false}
+use mathlib.Core.Bool.{Bool, false}
 use mathlib.Core.List.{List, [], ◌∷◌}
-use borrow.Author.Tests.{ne_eqb, lt-leb}
-use lib.Dec.{eqb, leb}
+use borrow.Author.Tests.{ne_eqb}
+use lib.Dec.{eqb}
 use lib.ListN.{length, drop, get_or}
 use Rattle.words.specs.Word.{Below}
-use Rattle.limits.specs.Limits.{fewest_tags, most_states, InRange, in_range}
+use Rattle.limits.specs.Limits.{fewest_tags, most_states, InRange}
 use Rattle.limits.specs.declared.Limits.{Limits}
-use Rattle.limits.proofs.Range.{within-is, without_is}
-use Rattle.answers.specs.Outcome.{Outcome, refused, nothing, provided}
-use Rattle.answers.specs.Answer.{refusal}
-use Rattle.answers.specs.declared.Refusal.{Refusal}
+use Rattle.limits.proofs.Range.{within-is}
+use Rattle.answers.specs.Outcome.{Outcome, provided}
 use Rattle.tables.specs.Bytes.{number}
 use Rattle.tables.specs.Decode.{Decoded, malformed, decode, decode_within}
 use Rattle.tables.proofs.Theorem.{decoded, head_at}
 use Rattle.tables.proofs.Outcomes.{Read, gave, refuses, read-decode, valid-length}
-use Rattle.decoder.specs.Index.{Head, HeadRead}
-use Rattle.decoder.specs.declared.TableAnswer.{TableAnswer}
+use Rattle.decoder.specs.Index.{Head}
 
 -- a test that fails refuses, whatever stands before it
 failed : {A : Type 0} (b : Bool) (o : Outcome A) → b ≡ false → provided 12 b o ≡ malformed
 failed b o e = rw e refl
-
-still : {A : Type 0} (b : Bool) (o : Outcome A) → o ≡ malformed → provided 12 b o ≡ malformed
-still true o e = e
-still false o e = refl
 
 -- the faults of a head, each as 12
 pub head_long : (lim : Limits) → InRange lim → (bs : List ℕ) → Below 0x100 bs → 0xffffff ≤ length bs → decode_within lim bs ≡ malformed
@@ -53,18 +46,6 @@ module _ (lim : Limits) (c k h l : ℕ) (bs : List ℕ) where
   command_fault : (c ≡ 0x30 → ⊥) → decode lim (c ∷ k ∷ h ∷ l ∷ bs) ≡ malformed
   command_fault n = failed (eqb c 0x30) _ (ne_eqb c 0x30 n)
 
-  few_tags_fault : k < fewest_tags → decode lim (c ∷ k ∷ h ∷ l ∷ bs) ≡ malformed
-  few_tags_fault n = still (eqb c 0x30) _ (failed (leb fewest_tags k) _ (lt-leb fewest_tags k n))
-
-  many_tags_fault : lim.tags < k → decode lim (c ∷ k ∷ h ∷ l ∷ bs) ≡ malformed
-  many_tags_fault n = still (eqb c 0x30) _ (still (leb fewest_tags k) _ (failed (leb k lim.tags) _ (lt-leb k lim.tags n)))
-
-  no_states_fault : number h l < 1 → decode lim (c ∷ k ∷ h ∷ l ∷ bs) ≡ malformed
-  no_states_fault n = still (eqb c 0x30) _ (still (leb fewest_tags k) _ (still (leb k lim.tags) _ (failed (leb 1 (number h l)) _ (lt-leb 1 (number h l) n))))
-
-  many_states_fault : most_states < number h l → decode lim (c ∷ k ∷ h ∷ l ∷ bs) ≡ malformed
-  many_states_fault n = still (eqb c 0x30) _ (still (leb fewest_tags k) _ (still (leb k lim.tags) _ (still (leb 1 (number h l)) _ (failed (leb (number h l) most_states) _ (lt-leb (number h l) most_states n)))))
-
 four : (bs : List ℕ) → 4 ≤ length bs → bs ≡ get_or bs 0 0 ∷ get_or bs 1 0 ∷ get_or bs 2 0 ∷ get_or bs 3 0 ∷ drop 4 bs
 four [] h = absurd (omega arith)
 four (x ∷ []) h = absurd (omega arith)
@@ -78,18 +59,6 @@ module _ (lim : Limits) (ranged : InRange lim) (bs : List ℕ) (long : 4 ≤ len
 
   pub head-command : (get_or bs 0 0 ≡ 0x30 → ⊥) → decode_within lim bs ≡ malformed
   head-command n = here _ (command_fault lim (get_or bs 0 0) (get_or bs 1 0) (get_or bs 2 0) (get_or bs 3 0) (drop 4 bs) n)
-
-  pub head-few_tags : get_or bs 1 0 < fewest_tags → decode_within lim bs ≡ malformed
-  head-few_tags n = here _ (few_tags_fault lim (get_or bs 0 0) (get_or bs 1 0) (get_or bs 2 0) (get_or bs 3 0) (drop 4 bs) n)
-
-  pub head_many_tags : lim.tags < get_or bs 1 0 → decode_within lim bs ≡ malformed
-  head_many_tags n = here _ (many_tags_fault lim (get_or bs 0 0) (get_or bs 1 0) (get_or bs 2 0) (get_or bs 3 0) (drop 4 bs) n)
-
-  pub head_no_states : number (get_or bs 2 0) (get_or bs 3 0) < 1 → decode_within lim bs ≡ malformed
-  head_no_states n = here _ (no_states_fault lim (get_or bs 0 0) (get_or bs 1 0) (get_or bs 2 0) (get_or bs 3 0) (drop 4 bs) n)
-
-  pub head_many_states : most_states < number (get_or bs 2 0) (get_or bs 3 0) → decode_within lim bs ≡ malformed
-  head_many_states n = here _ (many_states_fault lim (get_or bs 0 0) (get_or bs 1 0) (get_or bs 2 0) (get_or bs 3 0) (drop 4 bs) n)
 
   pub head_read :
       (k s : ℕ)
@@ -113,15 +82,3 @@ module _ (lim : Limits) (ranged : InRange lim) (bs : List ℕ) (long : 4 ≤ len
         some_states = s1;
         few_states = s256;
       }
-
--- limits out of range
-pub head-out : (lim : Limits) (bs : List ℕ) → in_range lim ≡ false → decode_within lim bs ≡ refused 17 nothing
-head-out lim bs e = without_is lim (decode lim bs) e
-
--- what reading the head answers
-module _ (lim : Limits) (bs : List ℕ) (a : TableAnswer) (h : HeadRead lim bs a) where
-  pub head_of : (k s : ℕ) → a ≡ TableAnswer.Table k s → Head lim bs k s
-  head_of k s e = rw e at h
-
-  pub head-not : (r : Refusal) → a ≡ TableAnswer.Refused r → decode_within lim bs ≡ refusal r
-  head-not r e = rw e at h

@@ -19,12 +19,10 @@ use Rattle.tables.specs.Bytes.{joined, row_bytes}
 use Rattle.tables.specs.Decode.{malformed, many, read_row, read_table, decode_within, ended, rows_balanced}
 use Rattle.words.specs.Decides.{Decides}
 use Rattle.steps.specs.Entry.{count_of}
-use Rattle.steps.specs.Part.{Part, PartRead}
+use Rattle.steps.specs.Part.{Part}
 use Rattle.indexing.specs.Entries.{TableEntries}
 use Rattle.leveling.specs.Level.{Level, Linked}
-use Rattle.decoder.specs.Index.{Head, RowsRead, LoadedIf}
-use Rattle.steps.specs.declared.Reached.{Reached}
-use Rattle.steps.specs.declared.Reached.TheVariants.{To, Malformed}
+use Rattle.decoder.specs.Index.{Head, LoadedIf}
 use Rattle.words.proofs.Word.{below-drop}
 use Rattle.tables.proofs.Parts.{Every, GoodRow, many_read, row_read}
 use Rattle.leveling.proofs.Level.{held, linked, levels_balanced, balanced_levels}
@@ -114,13 +112,3 @@ module _
 
     pub load_linked : s * (k + 1) ≤ length ix → (q a : ℕ) → q < s → a < k → Linked ix (q * (k + 1)) a
     load_linked room q a h g = linked (most_held lim) few k s bs ix p.value rows.0 rows.1 p.holds q a h g room
-
--- what reading the states answers
-module _ {lim : Limits} (k s : ℕ) (bs ix : List ℕ) (r : Reached) (head : Head lim bs k s) (p : PartRead (many (read_row (most_held lim) k s) row_bytes s) (joined row_bytes) (TableEntries k s bs ix) bs 4 r) where
-  pub load_not : r ≡ Malformed → decode_within lim bs ≡ malformed
-  load_not e =
-      let stop : many (read_row (most_held lim) k s) row_bytes s (drop 4 bs) ≡ malformed = rw e at p in
-      head.left ∙ rw stop refl
-
-  pub load_rows : (end : ℕ) → r ≡ To end → s * (k + 1) ≤ length ix → RowsRead lim bs k s ix end
-  load_rows end e room = record { head = head; rows = rw e at p; room = room }

@@ -1,10 +1,11 @@
--- Document 01's values for each case of `TableAnswer`, what the reader of tables answers.
+-- Document 01's outcome for each answer of the reader of tables.
+use Rattle.std.specs.Prelude.{Result, Ok, Err}
 use Rattle.answers.specs.Outcome.{Outcome, result}
 use Rattle.answers.specs.Answer.{refusal}
-use Rattle.tables.specs.Run.{Size}
-use Rattle.decoder.specs.declared.TableAnswer.{TableAnswer}
-use Rattle.decoder.specs.declared.TableAnswer.TheVariants.{Table, Refused}
+use Rattle.answers.specs.declared.Refusal.{Refusal}
+use Rattle.steps.specs.declared.Size.{Size}
+use Rattle.tables.specs.Run as run
 
-abbrev pub table_outcome : TableAnswer → Outcome Size
-table_outcome (Table k s) = result (record { tags = k; states = s })
-table_outcome (Refused r) = refusal r
+abbrev pub table_outcome : Result Size Refusal → Outcome run.Size
+table_outcome (Ok size) = result (record { tags = size.tags; states = size.states })
+table_outcome (Err r) = refusal r

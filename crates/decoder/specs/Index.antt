@@ -1,5 +1,5 @@
 -- A table's head, and its index once the states are read and once the whole is.
-use Rattle.std.specs.Prelude.{ℕ, ◌+◌, ◌*◌, ◌<◌, ◌≤◌, ◌≡◌, Bool, true, false, List, length, drop}
+use Rattle.std.specs.Prelude.{ℕ, ◌+◌, ◌*◌, ◌<◌, ◌≤◌, ◌≡◌, Bool, true, false, Result, Ok, Err, List, length, drop}
 use Rattle.limits.specs.Limits.{fewest_tags, most_tags, most_states, InRange, most_held}
 use Rattle.limits.specs.declared.Limits.{Limits}
 use Rattle.answers.specs.Outcome.{result}
@@ -10,8 +10,8 @@ use Rattle.tables.specs.Bytes.{joined, row_bytes}
 use Rattle.tables.specs.Decode.{malformed, many, read_row, read_table, decode_within}
 use Rattle.steps.specs.Part.{Part}
 use Rattle.indexing.specs.Entries.{TableEntries}
-use Rattle.decoder.specs.declared.TableAnswer.{TableAnswer}
-use Rattle.decoder.specs.declared.TableAnswer.TheVariants.{Refused}
+use Rattle.answers.specs.declared.Refusal.{Refusal}
+use Rattle.steps.specs.declared.Size.{Size}
 
 -- the head was read: what is left is the table after it
 pub record Head (lim : Limits) (bs : List ℕ) (k s : ℕ) : Type 0 where
@@ -24,9 +24,9 @@ pub record Head (lim : Limits) (bs : List ℕ) (k s : ℕ) : Type 0 where
   pub some_states : 1 ≤ s
   pub few_states : s ≤ most_states
 
-abbrev pub HeadRead : Limits → List ℕ → TableAnswer → Type 0
-HeadRead lim bs (TableAnswer.Table k s) = Head lim bs k s
-HeadRead lim bs (Refused r) = decode_within lim bs ≡ refusal r
+abbrev pub HeadRead : Limits → List ℕ → Result Size Refusal → Type 0
+HeadRead lim bs (Ok size) = Head lim bs size.tags size.states
+HeadRead lim bs (Err r) = decode_within lim bs ≡ refusal r
 
 -- the states were read up to a place
 pub record RowsRead (lim : Limits) (bs : List ℕ) (k s : ℕ) (ix : List ℕ) (end : ℕ) : Type 0 where

@@ -7,7 +7,7 @@ ghost use Rattle.tables.specs.Bytes.{tagged, joined, step_bytes, row_bytes, enco
 ghost use Rattle.workspace.specs.Cells.{word, Sized};
 ghost use Rattle.encoder.specs.Encoding.{BytesWritten, step_in, steps_in, row_in, rows_in, Bytes, Encodable, Writable, Measured};
 
-use workspace::{FINAL, Grid, NEXT, OUTPUT, get};
+use workspace::{FINAL, Grid, NEXT, OUTPUT, Part, get};
 
 // A number below 256 as a byte.
 pub fn byte(n: usize) -> u8
@@ -35,13 +35,11 @@ fn write_word(
 {
     let n = get(work, g, r, c, s);
     let mut to = from;
-    let mut i = 0;
-    while i < n {
+    for i in 0..n {
         let tag = get(work, g, r, c, s + i + 1);
         out[to] = command;
         out[to + 1] = byte(tag);
         to += 2;
-        i += 1;
     }
     to
 }
@@ -64,12 +62,9 @@ fn write_steps(work: &[u16], g: Grid, r: usize, out: &mut [u8], from: usize) -> 
     requires r_in_bounds { from + length (joined step_bytes (steps_in g work.now r)) ≤ length out.old }
     ensures { BytesWritten out.old out.new from (joined step_bytes (steps_in g work.now r)) result }
 {
-    let tags = g.tags;
     let mut to = from;
-    let mut a = 0;
-    while a < tags {
+    for a in 0..g.tags {
         to = write_step(work, g, r, a, out, to);
-        a += 1;
     }
     to
 }
@@ -88,32 +83,30 @@ fn write_row(work: &[u16], g: Grid, r: usize, out: &mut [u8], from: usize) -> us
     write_steps(work, g, r, out, to)
 }
 
-fn write_rows(work: &[u16], g: Grid, base: usize, n: usize, out: &mut [u8], from: usize) -> usize
-    requires writable { Writable g work.now base n }
-    requires n_in_bounds { from + length (joined row_bytes (rows_in g work.now base n)) ≤ length out.old }
-    ensures { BytesWritten out.old out.new from (joined row_bytes (rows_in g work.now base n)) result }
+fn write_rows(work: &[u16], part: Part, out: &mut [u8], from: usize) -> usize
+    requires writable { Writable part.grid work.now part.base part.states }
+    requires n_in_bounds { from + length (joined row_bytes (rows_in part.grid work.now part.base part.states)) ≤ length out.old }
+    ensures { BytesWritten out.old out.new from (joined row_bytes (rows_in part.grid work.now part.base part.states)) result }
 {
     let mut to = from;
-    let mut q = 0;
-    while q < n {
-        to = write_row(work, g, base + q, out, to);
-        q += 1;
+    for q in 0..part.states {
+        to = write_row(work, part.grid, part.base + q, out, to);
     }
     to
 }
 
-// The table in n rows from `base`, to the front of `out`: the number of its bytes.
-pub fn write_table(work: &[u16], g: Grid, base: usize, n: usize, out: &mut [u8]) -> usize
-    requires writable { Writable g work.now base n }
-    requires n_in_bounds { length (encode g.tags (rows_in g work.now base n)) ≤ length out.old }
-    ensures { BytesWritten out.old out.new 0 (encode g.tags (rows_in g work.now base n)) result }
+// The table in the part's rows, to the front of `out`: the number of its bytes.
+pub fn write_table(work: &[u16], part: Part, out: &mut [u8]) -> usize
+    requires writable { Writable part.grid work.now part.base part.states }
+    requires n_in_bounds { length (encode part.grid.tags (rows_in part.grid work.now part.base part.states)) ≤ length out.old }
+    ensures { BytesWritten out.old out.new 0 (encode part.grid.tags (rows_in part.grid work.now part.base part.states)) result }
 {
-    let tags = g.tags;
+    let tags = part.grid.tags;
     out[0] = 0x30;
     out[1] = byte(tags);
-    out[2] = byte(n / 0x100);
-    out[3] = byte(n % 0x100);
-    let to = write_rows(work, g, base, n, out, 4);
+    out[2] = byte(part.states / 0x100);
+    out[3] = byte(part.states % 0x100);
+    let to = write_rows(work, part, out, 4);
     out[to] = 0;
     to + 1
 }
@@ -123,12 +116,9 @@ fn measure_steps(work: &[u16], g: Grid, r: usize) -> usize
     requires tags_bound { g.tags < 0x100 }
     ensures { Measured (joined step_bytes (steps_in g work.now r)) 0x2000000 result }
 {
-    let tags = g.tags;
     let mut total = 0;
-    let mut a = 0;
-    while a < tags {
+    for a in 0..g.tags {
         total += 3 + 2 * get(work, g, r, a, OUTPUT);
-        a += 1;
     }
     total
 }
@@ -143,16 +133,14 @@ fn measure_row(work: &[u16], g: Grid, r: usize) -> usize
     2 + 2 * n + measure_steps(work, g, r)
 }
 
-// The number of bytes of the table in n rows from `base`.
-pub fn measure(work: &[u16], g: Grid, base: usize, n: usize) -> usize
-    requires { Writable g work.now base n }
-    ensures { result ≡ length (encode g.tags (rows_in g work.now base n)) }
+// The number of bytes of the table in the part's rows.
+pub fn measure(work: &[u16], part: Part) -> usize
+    requires { Writable part.grid work.now part.base part.states }
+    ensures { result ≡ length (encode part.grid.tags (rows_in part.grid work.now part.base part.states)) }
 {
     let mut total = 0;
-    let mut q = 0;
-    while q < n {
-        total += measure_row(work, g, base + q);
-        q += 1;
+    for q in 0..part.states {
+        total += measure_row(work, part.grid, part.base + q);
     }
     total + 5
 }

@@ -10,9 +10,9 @@ ghost use Rattle.cascades.specs.Ending.{before, misused, some_misused, bad_end};
 ghost use Rattle.books.specs.Arrays.{arrays, rules_of, cascade_of};
 ghost use Rattle.endings.specs.Usable.{Usable};
 
-use books::HEAD;
+use books::Rules;
 use cascades::{Rule, accepts, set_at};
-use limits::{PATTERN, RULES};
+use limits::PATTERN;
 
 // Whether the tag stands before the last place of a pattern without sets.
 fn stands_before(u: &[u8], end: u8) -> bool
@@ -21,15 +21,7 @@ fn stands_before(u: &[u8], end: u8) -> bool
     if u.len() == 0 {
         return false;
     }
-    let last = u.len() - 1;
-    let mut i = 0;
-    while i < last {
-        if u[i] == end {
-            return true;
-        }
-        i += 1;
-    }
-    false
+    u[..u.len() - 1].contains(&end)
 }
 
 // Whether a place before the last of the pattern u, with the first n of the sets, accepts the tag.
@@ -40,14 +32,11 @@ fn accepts_before(u: &[u8], sets: &[u64; PATTERN], n: usize, end: u8) -> bool
     if u.len() == 0 {
         return false;
     }
-    let most = u.len() - 1;
-    let mut i = 0;
-    while i < most {
+    for i in 0..u.len() - 1 {
         let set = set_at(sets, n, i);
         if accepts(u[i], set, end) {
             return true;
         }
-        i += 1;
     }
     false
 }
@@ -57,82 +46,46 @@ fn misuses(rule: Rule, early: bool, end: u8) -> bool
     requires { (rule.place < rule.length) × (rule.length ≤ longest_pattern) × (length rule.row ≡ longest_pattern) }
     ensures { (ss : List ℕ) → Formed rule ss → early ≡ before end (rule_of rule ss).pattern → result ≡ misused end (rule_of rule ss) }
 {
-    let row = rule.row;
-    let place = rule.place;
-    if early {
-        return true;
-    }
-    if row[place] == end {
-        return true;
-    }
-    rule.tag == end
+    early || rule.row[rule.place] == end || rule.tag == end
 }
 
 // Whether some rule does, where none has a set.
-fn some_misuses(
-    rows: &[[u8; PATTERN]; RULES],
-    lengths: &[usize; RULES],
-    heads: &[[u8; HEAD]; RULES],
-    sets: &[[u64; PATTERN]],
-    m: usize,
-    end: u8,
-) -> bool
-    requires { Usable m (arrays rows lengths heads sets.now) × (length sets.now ≡ 0) }
-    ensures { result ≡ some_misused end (rules_of (arrays rows.entry lengths.entry heads.entry sets.now) m) }
+fn some_misuses(rules: &Rules, sets: &[[u64; PATTERN]], m: usize, end: u8) -> bool
+    requires { Usable m (arrays rules.now sets.now) × (length sets.now ≡ 0) }
+    ensures { result ≡ some_misused end (rules_of (arrays rules.now sets.now) m) }
 {
-    let mut i = 0;
-    while i < m {
-        let rule = reader::rule_at(rows, lengths, heads, sets, i);
-        let row = rule.row;
-        let n = rule.length;
-        let early = stands_before(&row[..n], end);
+    for i in 0..m {
+        let rule = reader::rule_at(rules, sets, i);
+        let early = stands_before(&rule.row[..rule.length], end);
         if misuses(rule, early, end) {
             return true;
         }
-        i += 1;
     }
     false
 }
 
 // The same where rules may have sets: some of the first m rules does if some before the last does, or the last. It calls itself so that it stays a
 // call: in the place of the call, its loop would take the registers of the one above.
-fn some_misuses_sets(
-    rows: &[[u8; PATTERN]; RULES],
-    lengths: &[usize; RULES],
-    heads: &[[u8; HEAD]; RULES],
-    sets: &[[u64; PATTERN]],
-    m: usize,
-    end: u8,
-) -> bool
-    requires { Usable m (arrays rows lengths heads sets.now) × (length sets.now ≡ most_rules) }
-    ensures { result ≡ some_misused end (rules_of (arrays rows.entry lengths.entry heads.entry sets.now) m) }
+fn some_misuses_sets(rules: &Rules, sets: &[[u64; PATTERN]], m: usize, end: u8) -> bool
+    requires { Usable m (arrays rules.now sets.now) × (length sets.now ≡ most_rules) }
+    ensures { result ≡ some_misused end (rules_of (arrays rules.now sets.now) m) }
 {
     if m == 0 {
         return false;
     }
     let last = m - 1;
-    if some_misuses_sets(rows, lengths, heads, sets, last, end) {
+    if some_misuses_sets(rules, sets, last, end) {
         return true;
     }
-    let rule = reader::rule_at(rows, lengths, heads, sets, last);
-    let row = rule.row;
-    let n = rule.length;
-    let early = accepts_before(&row[..n], &sets[last], rule.sets, end);
+    let rule = reader::rule_at(rules, sets, last);
+    let early = accepts_before(&rule.row[..rule.length], &sets[last], rule.sets, end);
     misuses(rule, early, end)
 }
 
 // Whether 14 is given for the end tag.
-pub fn bad_end(
-    k: u8,
-    rows: &[[u8; PATTERN]; RULES],
-    lengths: &[usize; RULES],
-    heads: &[[u8; HEAD]; RULES],
-    sets: &[[u64; PATTERN]],
-    m: usize,
-    end: u8,
-) -> bool
-    requires { Usable m (arrays rows lengths heads sets.now) }
-    ensures { result ≡ bad_end (ending end (cascade_of k (arrays rows.entry lengths.entry heads.entry sets.now) m)) }
+pub fn bad_end(k: u8, rules: &Rules, sets: &[[u64; PATTERN]], m: usize, end: u8) -> bool
+    requires { Usable m (arrays rules.now sets.now) }
+    ensures { result ≡ bad_end (ending end (cascade_of k (arrays rules.now sets.now) m)) }
 {
     if end == limits::NO_END {
         return false;
@@ -141,7 +94,7 @@ pub fn bad_end(
         return true;
     }
     if sets.len() == 0 {
-        return some_misuses(rows, lengths, heads, sets, m, end);
+        return some_misuses(rules, sets, m, end);
     }
-    some_misuses_sets(rows, lengths, heads, sets, m, end)
+    some_misuses_sets(rules, sets, m, end)
 }

@@ -1,15 +1,19 @@
 -- The entries of a state that rests.
-use Prim.Native.Nat.{ℕ, zero, suc, ◌+◌, ◌*◌, ◌<◌}
+use Prim.Native.Nat.{ℕ, zero, suc, ◌+◌, ◌*◌, ◌-◌, ◌<◌, ◌≤◌}
+use native.Mathlib.Numerals.{add-one}
 use native.Mathlib.Omega.{arith}
 use mathlib.Core.Path.{◌≡◌, refl, sym, ap, ◌∙◌, subst}
 use mathlib.Core.Bool.{Bool, true, false, ◌&&◌, false≢true}
 use mathlib.Core.List.{List, [], ◌∷◌}
-use borrow.Author.Tests.{eqb-true, eqb-false, eq-eqb}
+use borrow.Author.Tests.{eqb-true, eq-eqb}
 use lib.Dec.{eqb}
 use lib.ListN.{length, get_or}
+use Rattle.std.specs.Bool.{MatchBool}
+use Rattle.std.specs.List.{AllWithin, HoldsAt, range_with_len}
+use Rattle.std.proofs.lemmas.List.FromFn.{length-range_with_len, get_or-range_with_len}
 use Rattle.words.specs.Decides.{Decides}
 use Rattle.transducers.specs.Table.{Step, Table, no_step, row, step}
-use Rattle.steps.specs.Entry.{base_of, count_of, tag_of}
+use Rattle.steps.specs.Entry.{count_of}
 use Rattle.decoder.specs.Index.{Loaded}
 use Rattle.tables.proofs.Outcomes.{read-few}
 use Rattle.limits.specs.declared.Limits.{Limits}
@@ -62,12 +66,24 @@ stays-is q (s ∷ ss) b (suc a) e h =
     let z : suc b + a ≡ b + suc a = omega arith in
     (more.0, subst (λ (i : ℕ). only i (get_or ss a no_step).output ≡ true) z more.1)
 
--- a step's three tests
-pub stay_decided : (e base a b c w : ℕ) → b ≡ base_of e → b ≡ base → c ≡ count_of e → c ≡ 1 → w ≡ tag_of e → Decides (eqb w a) (Stays e base a)
-stay_decided e base a b c w be b-is ce c-is we =
+-- a state's entries that were all tested, or one of which failed
+pub rests-decided : (ix : List ℕ) (k cell : ℕ) (r : Bool) → count_of (get_or ix cell 0) ≡ 0
+    → MatchBool r (AllWithin (λ a. Stays (get_or ix (cell + 1 + a) 0) (cell + 1) a) (range_with_len 0 k) 0 (length (range_with_len 0 k)))
+    ((a : ℕ) × (a < length (range_with_len 0 k)) × HoldsAt (λ a. Stays (get_or ix (cell + 1 + a) 0) (cell + 1) a → ⊥) (range_with_len 0 k) a)
+    → Decides r (RestsIn ix k cell)
+rests-decided ix k cell true empty all = record { so = λ e. record { empty = empty; steps = steps }; not = λ e. absurd (false≢true (sym e)) }
+  where
+    steps : (a : ℕ) → a < k → Stays (get_or ix (cell + 1 + a) 0) (cell + 1) a
+    steps a h =
+        let at : get_or (range_with_len 0 k) a 0 ≡ a = omega (arith, get_or-range_with_len 0 k a 0 h) in
+        subst (λ (i : ℕ). Stays (get_or ix (cell + 1 + i) 0) (cell + 1) i) at (all a 0 (omega arith) (omega (arith, length-range_with_len 0 k)))
+rests-decided ix k cell false empty all =
     record {
-      so = λ t. (sym be ∙ b-is, sym ce ∙ c-is, sym we ∙ eqb-true w a t);
-      not = λ t s. eqb-false w a t (we ∙ s.2);
+      so = λ e. absurd (false≢true e);
+      not = λ e r.
+          let h : all.0 < k = omega (arith, all.1, length-range_with_len 0 k) in
+          let at : all.0 ≡ get_or (range_with_len 0 k) all.0 0 = omega (arith, get_or-range_with_len 0 k all.0 0 h) in
+          all.2 0 (subst (λ (i : ℕ). Stays (get_or ix (cell + 1 + i) 0) (cell + 1) i) at (r.steps all.0 h));
     }
 
 -- ---- of a table that is loaded
@@ -115,7 +131,7 @@ module _ {lim : Limits} (bs ix : List ℕ) (k : ℕ) (l : Loaded lim bs k ix) wh
           steps = λ a ha. let s = stays-is q (row t q).steps 0 a two.1 (omega (arith, ha, l.valid.whole q h)) in stay_is a ha s.0 s.1;
         }
 
-    pub decided_rests : (b : Bool) → Decides b (RestsIn ix k (q * (k + 1))) → rests t q ≡ b
+    decided_rests : (b : Bool) → Decides b (RestsIn ix k (q * (k + 1))) → rests t q ≡ b
     decided_rests true d = rests-so (d.so refl)
     decided_rests false d = by (rests t q) refl
       where
@@ -123,9 +139,21 @@ module _ {lim : Limits} (bs ix : List ℕ) (k : ℕ) (l : Loaded lim bs k ix) wh
         by true e = absurd (d.not refl (rests-is e))
         by false e = refl
 
-  -- the search from the front
-  pub resting-next : (n q : ℕ) → rests t q ≡ false → first_resting t (suc n) q ≡ first_resting t n (suc q)
-  resting-next n q e = ap (λ (b : Bool). elim b as (λ x. ℕ) [ true ↦ q | false ↦ first_resting t n (suc q) ]) e
+  -- the search from the front: a state was tested
+  module _ (s q cell : ℕ) (b : Bool) (h : q < s) (long : length t ≡ s) (is : cell ≡ q * (k + 1)) (d : Decides b (RestsIn ix k cell)) where
+    turn : first_resting t (s - q) q ≡ elim b as (λ x. ℕ) [ true ↦ q | false ↦ first_resting t (s - (q + 1)) (q + 1) ]
+    turn =
+        let left : s - q ≡ suc (s - (q + 1)) = omega arith in
+        ap (λ (n : ℕ). first_resting t n q) left
+        ∙ ap (λ (c : Bool). elim c as (λ x. ℕ) [ true ↦ q | false ↦ first_resting t (s - (q + 1)) (suc q) ]) (decided_rests q (omega (arith, long)) b (subst (λ (i : ℕ). Decides b (RestsIn ix k i)) is d))
+        ∙ ap (λ (i : ℕ). elim b as (λ x. ℕ) [ true ↦ q | false ↦ first_resting t (s - (q + 1)) i ]) (sym (add-one q))
 
-  pub resting-here : (n q : ℕ) → rests t q ≡ true → first_resting t (suc n) q ≡ q
-  resting-here n q e = ap (λ (b : Bool). elim b as (λ x. ℕ) [ true ↦ q | false ↦ first_resting t n (suc q) ]) e
+    pub resting-next : b ≡ false → first_resting t (s - q) q ≡ first_resting t (s - (q + 1)) (q + 1)
+    resting-next e = turn ∙ ap (λ (c : Bool). elim c as (λ x. ℕ) [ true ↦ q | false ↦ first_resting t (s - (q + 1)) (q + 1) ]) e
+
+    pub resting-here : b ≡ true → first_resting t (s - q) q ≡ q
+    resting-here e = turn ∙ ap (λ (c : Bool). elim c as (λ x. ℕ) [ true ↦ q | false ↦ first_resting t (s - (q + 1)) (q + 1) ]) e
+
+  -- none rests
+  pub resting-none : (s q : ℕ) → s ≤ q → first_resting t (s - q) q ≡ q
+  resting-none s q h = let none : s - q ≡ 0 = omega arith in ap (λ (n : ℕ). first_resting t n q) none

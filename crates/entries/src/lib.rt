@@ -11,20 +11,13 @@ ghost use Rattle.decoder.specs.Index.{Loaded};
 ghost use Rattle.loaded.specs.Numbers.{entry, behind, first_resting, next_at};
 ghost use Rattle.entries.specs.State.{RestsIn, Stays, Base};
 
-use steps::{base_of, count_of, tag_of};
-use words::wide;
+use steps::{Size, base_of, count_of, tag_of};
 
 // Whether the step on a puts out a alone and leads back to the state whose steps' entries begin at `base`.
 fn stays(e: u64, base: usize, a: usize) -> bool
     ensures { Decides result (Stays e base a) }
 {
-    if base_of(e) != base {
-        return false;
-    }
-    if count_of(e) != 1 {
-        return false;
-    }
-    wide(tag_of(e)) == a
+    base_of(e) == base && count_of(e) == 1 && usize::from(tag_of(e)) == a
 }
 
 // Whether the state whose entries begin at `cell` holds nothing, puts out each tag as it is, and stays.
@@ -32,32 +25,20 @@ fn rests(index: &[u64], k: usize, cell: usize) -> bool
     requires { cell + k < length index.now }
     ensures { Decides result (RestsIn index.now k cell) }
 {
-    if count_of(index[cell]) != 0 {
-        return false;
-    }
-    let mut a = 0;
-    while a < k {
-        if !stays(index[cell + 1 + a], cell + 1, a) {
-            return false;
-        }
-        a += 1;
-    }
-    true
+    count_of(index[cell]) == 0 && (0..k).all(|a| stays(index[cell + 1 + a], cell + 1, a))
 }
 
 // Where the entries of the steps of the first state that rests begin; if none does, where those of one more state would.
-pub fn first_resting(index: &[u64], k: usize, s: usize) -> usize
-    requires { s * (k + 1) ≤ length index.now }
-    ensures { (lim : Limits) (bs : List ℕ) (l : Loaded lim bs k index.now) → length l.table ≡ s → result ≡ first_resting l.table s 0 * (k + 1) + 1 }
+pub fn first_resting(index: &[u64], size: Size) -> usize
+    requires { size.states * (size.tags + 1) ≤ length index.now }
+    ensures { (lim : Limits) (bs : List ℕ) (l : Loaded lim bs size.tags index.now) → length l.table ≡ size.states → result ≡ first_resting l.table size.states 0 * (size.tags + 1) + 1 }
 {
-    let mut q = 0;
     let mut cell = 0;
-    while q < s {
-        if rests(index, k, cell) {
-            return cell + 1;
+    for _q in 0..size.states {
+        if rests(index, size.tags, cell) {
+            break;
         }
-        cell += k + 1;
-        q += 1;
+        cell += size.tags + 1;
     }
     cell + 1
 }
@@ -73,25 +54,22 @@ pub fn word_number(table: &[u8], from: usize, count: usize, place: usize) -> u32
     if count == 0 {
         return 0;
     }
-    let one = count + 0x100 * wide(table[from]);
+    let one = count + 0x100 * usize::from(table[from]);
     if count == 1 {
         return one as u32;
     }
-    let two = one + 0x10000 * wide(table[from + 2]);
+    let two = one + 0x10000 * usize::from(table[from + 2]);
     if count == 2 {
         return two as u32;
     }
-    (two + 0x1000000 * wide(table[from + 4])) as u32
+    (two + 0x1000000 * usize::from(table[from + 4])) as u32
 }
 
 // How many tags of a word stand behind the rows.
 pub fn behind_of(count: usize) -> usize
     ensures { ((w : List ℕ) → length w ≡ count → result ≡ length (behind w)) × (result ≤ count) }
 {
-    if 3 < count {
-        return count;
-    }
-    0
+    if 3 < count { count } else { 0 }
 }
 
 // Where a step leads: a row has two numbers for each entry of its state.
@@ -100,7 +78,7 @@ pub fn next_place(base: usize, rested: usize) -> u32
     ensures { (k q rest : ℕ) → Base k q base → Base k rest rested → result ≡ next_at k rest q }
 {
     if base == rested {
-        return 0xffffffff;
+        return loaded::RESTING;
     }
     (2 * base - 1) as u32
 }
@@ -109,13 +87,7 @@ pub fn next_place(base: usize, rested: usize) -> u32
 pub fn single(tag: u8) -> u32
     ensures { result ≡ 1 + 0x100 * tag }
 {
-    1 + 0x100 * tag as u32
-}
-
-fn number_of(tag: u8) -> u32
-    ensures { result ≡ tag }
-{
-    tag as u32
+    1 + 0x100 * u32::from(tag)
 }
 
 // The tags of a word of more than three, each second byte from `from`, to the numbers from `at`.
@@ -126,9 +98,7 @@ pub fn put_tags(table: &[u8], from: usize, count: usize, loaded: &mut [u32], at:
     if count <= 3 {
         return;
     }
-    let mut j = 0;
-    while j < count {
-        loaded[at + j] = number_of(table[from + 2 * j]);
-        j += 1;
+    for j in 0..count {
+        loaded[at + j] = u32::from(table[from + 2 * j]);
     }
 }

@@ -4,6 +4,7 @@ use native.Mathlib.Omega.{arith}
 use mathlib.Core.Path.{◌≡◌, sym, ap₂, ◌∙◌, subst}
 use mathlib.Core.List.{List, [], ◌∷◌, ◌++◌}
 use lib.ListN.{length, drop, length-append}
+use Rattle.std.specs.Prelude.{Result, Ok, Err}
 use Rattle.limits.specs.declared.Limits.{Limits}
 use Rattle.transducers.specs.Transducer.{Shape, puts}
 use Rattle.transducers.specs.Canonical.{Same}
@@ -15,8 +16,7 @@ use Rattle.workspace.specs.declared.Grid.{Grid}
 use Rattle.workspace.specs.Holds.{standing}
 use Rattle.equivalence.specs.Tables.{Tables, given}
 use Rattle.equivalence.specs.Search.{Stored, TriedAs, Apart, Sought, Shown}
-use Rattle.equivalence.specs.declared.Sighting.{Sighting}
-use Rattle.equivalence.specs.declared.Tried.{Tried}
+use Rattle.equivalence.specs.declared.Difference.{Difference}
 use Rattle.equivalence.proofs.Tables.{left-inside, right-inside, left-some, right-some, sum, few, bound}
 
 -- fewer words are chained too
@@ -31,11 +31,11 @@ fewer h c =
 
 -- what the trial of a word answered
 module _ {k : ℕ} {S T : Shape} {s m i : ℕ} (labels : List ℕ) {pairs : List ℕ} where
-  pub tried_agrees : (r : Tried) (n : ℕ) → r ≡ Tried.Agrees n → TriedAs k S T s m i labels pairs r → Stored s m labels pairs × Searching k S T n (i + 1) 0 labels pairs × (i < n)
+  pub tried_agrees : (r : Result ℕ Difference) (n : ℕ) → r ≡ Ok n → TriedAs k S T s m i labels pairs r → Stored s m labels pairs × Searching k S T n (i + 1) 0 labels pairs × (i < n)
   tried_agrees r n e h = subst (TriedAs k S T s m i labels pairs) e h
 
-  pub tried_apart : (r : Tried) (a : ℕ) → r ≡ Tried.Differs a → TriedAs k S T s m i labels pairs r → Apart k S T s m i a pairs
-  tried_apart r a e h = subst (TriedAs k S T s m i labels pairs) e h
+  pub tried_apart : (r : Result ℕ Difference) (d : Difference) → r ≡ Err d → TriedAs k S T s m i labels pairs r → (d.word ≡ i) × Apart k S T s m d.word d.tag pairs
+  tried_apart r d e h = subst (TriedAs k S T s m i labels pairs) e h
 
 module _ {lim : Limits} {bs ix : List ℕ} {g : Grid} {W : List ℕ} {m s : ℕ} (ok : Tables lim bs ix g W m s) where
   abbrev S : Shape
@@ -80,11 +80,11 @@ module _ {lim : Limits} {bs ix : List ℕ} {g : Grid} {W : List ℕ} {m s : ℕ}
       stored-ended g.tags S T (left-inside ok) (right-inside ok) (left-some ok) (right-some ok) (subst (λ (x : ℕ). Searching g.tags S T n x 0 labels pairs) e found)
 
   -- what the search answered
-  pub found_none : (pairs : List ℕ) (r : Sighting) → r ≡ Sighting.Nowhere → Sought g.tags S T s m pairs r → Same g.tags (puts S 0) (puts T 0)
+  pub found_none : (pairs : List ℕ) (r : Result Unit Difference) → r ≡ Ok tt → Sought g.tags S T s m pairs r → Same g.tags (puts S 0) (puts T 0)
   found_none pairs r e h = subst (Sought g.tags S T s m pairs) e h
 
-  pub found_at : {pairs : List ℕ} (i a : ℕ) (r : Sighting) → r ≡ Sighting.At i a → Sought g.tags S T s m pairs r → Apart g.tags S T s m i a pairs
-  found_at {pairs} i a r e h = subst (Sought g.tags S T s m pairs) e h
+  pub found_at : {pairs : List ℕ} (d : Difference) (r : Result Unit Difference) → r ≡ Err d → Sought g.tags S T s m pairs r → Apart g.tags S T s m d.word d.tag pairs
+  found_at {pairs} d r e h = subst (Sought g.tags S T s m pairs) e h
 
   -- a word on which both differ is written
   module _ {i a : ℕ} {pairs : List ℕ} (apart : Apart g.tags S T s m i a pairs) where

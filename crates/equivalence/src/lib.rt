@@ -7,8 +7,7 @@
 ghost use Rattle.std.specs.Prelude.{◌≡◌, ◌+◌, ◌≤◌, ◌<◌, length};
 ghost use Rattle.agreement.specs.Search.{StepAgrees};
 ghost use Rattle.agreement.specs.Stored.{Searching, left_at, right_at};
-ghost use Rattle.workspace.specs.Holds.{standing};
-ghost use Rattle.equivalence.specs.Tables.{Tables, given};
+ghost use Rattle.equivalence.specs.Both.{TablesOf, first, second};
 ghost use Rattle.equivalence.specs.Search.{Stored, Buffers, Followed, TriedAs, Sought, Judged};
 
 use comparing::{BUFFER, step_agrees};
@@ -17,35 +16,28 @@ use listing::{LABELS, NUMBERS, left_of, link, right_of};
 use steps::next_state;
 use workspace::{Grid, NEXT, get};
 
-// Whether both make the same of every sentence, or how many tags a sentence has on which they differ.
+// The two tables: one of so many states in its bytes, with its index, and one in the first rows of the work slice.
 #[derive(Clone, Copy)]
-pub enum Verdict {
-    Same,
-    Differs(usize),
+pub struct Both<'a> {
+    pub table: &'a [u8],
+    pub index: &'a [u64],
+    pub states: usize,
+    pub work: &'a [u16],
+    pub grid: Grid,
+    pub rows: usize,
+    pub lim: Limits,
 }
 
-// Of a listed word: how many words are listed after it was tried with every tag, or a tag with which both differ.
+// A listed word that leads to states which differ on a tag.
 #[derive(Clone, Copy)]
-enum Tried {
-    Agrees(usize),
-    Differs(usize),
-}
-
-// Of the whole search: that no listed word differs, or one and a tag.
-#[derive(Clone, Copy)]
-enum Sighting {
-    Nowhere,
-    At { word: usize, tag: usize },
+struct Difference {
+    word: usize,
+    tag: usize,
 }
 
 // The i-th word, which leads to p and q, with the tag a more is listed if its states have different labels: how many words are listed.
 fn follow(
-    table: &[u8],
-    index: &[u64],
-    work: &[u16],
-    g: Grid,
-    m: usize,
-    s: usize,
+    both: Both,
     labels: &mut [usize],
     pairs: &mut [usize],
     n: usize,
@@ -53,116 +45,85 @@ fn follow(
     p: usize,
     q: usize,
     a: usize,
-    lim: Limits,
 ) -> usize
-    requires tables { Tables lim table.now index.now g work.now m s × Stored s m labels.old pairs.old }
-    requires searching { Searching g.tags (given lim table.now) (standing g work.now 0 m) n i a labels.old pairs.old × (i < n) × (a < g.tags) }
-    requires p_value { (p ≡ left_at pairs.old i) × (q ≡ right_at pairs.old i) × StepAgrees (given lim table.now) (standing g work.now 0 m) p q a }
-    ensures { Followed g.tags (given lim table.now) (standing g work.now 0 m) s m i (a + 1) labels.new pairs.new result }
+    requires tables { TablesOf both × Stored both.states both.rows labels.old pairs.old }
+    requires searching { Searching both.grid.tags (first both) (second both) n i a labels.old pairs.old × (i < n) × (a < both.grid.tags) }
+    requires p_value { (p ≡ left_at pairs.old i) × (q ≡ right_at pairs.old i) × StepAgrees (first both) (second both) p q a }
+    ensures { Followed both.entry.grid.tags (first both.entry) (second both.entry) both.entry.states both.entry.rows i (a + 1) labels.new pairs.new result }
 {
-    let e = comparing::entry_of(index, p, a + 1, g.tags);
+    let g = both.grid;
+    let s = both.states;
+    let e = comparing::entry_of(both.index, p, a + 1, g.tags);
     let left = next_state(e, g.tags);
-    let right = get(work, g, q, a, NEXT);
-    link(labels, pairs, s + m, n, left, s + right, left, right, i, a)
+    let right = get(both.work, g, q, a, NEXT);
+    let total = s + both.rows;
+    link(labels, pairs, total, n, left, s + right, left, right, i, a)
 }
 
-// The i-th word is tried with every tag.
+// The i-th word is tried with every tag: how many words are listed then.
 fn try_word(
-    table: &[u8],
-    index: &[u64],
-    work: &[u16],
-    g: Grid,
-    m: usize,
-    s: usize,
+    both: Both,
     labels: &mut [usize],
     pairs: &mut [usize],
     n: usize,
     i: usize,
     one: &mut [u8],
     two: &mut [u8],
-    lim: Limits,
-) -> Tried
-    requires tables { Tables lim table.now index.now g work.now m s × Stored s m labels.old pairs.old × Buffers one.old two.old }
-    requires searching { Searching g.tags (given lim table.now) (standing g work.now 0 m) n i 0 labels.old pairs.old × (i < n) }
-    ensures { TriedAs g.tags (given lim table.now) (standing g work.now 0 m) s m i labels.new pairs.new result }
+) -> Result<usize, Difference>
+    requires tables { TablesOf both × Stored both.states both.rows labels.old pairs.old × Buffers one.old two.old }
+    requires searching { Searching both.grid.tags (first both) (second both) n i 0 labels.old pairs.old × (i < n) }
+    ensures { TriedAs both.entry.grid.tags (first both.entry) (second both.entry) both.entry.states both.entry.rows i labels.new pairs.new result }
 {
-    let k = g.tags;
     let mut count = n;
-    let mut a = 0;
-    while a < k {
+    for a in 0..both.grid.tags {
         let p = left_of(pairs, i);
         let q = right_of(pairs, i);
-        if !step_agrees(table, index, work, g, m, p, q, a, one, two) {
-            return Tried::Differs(a);
-        }
-        count = follow(
-            table, index, work, g, m, s, labels, pairs, count, i, p, q, a, lim,
+        let agrees = step_agrees(
+            both.table, both.index, both.work, both.grid, both.rows, p, q, a, one, two,
         );
-        a += 1;
+        if !agrees {
+            return Err(Difference { word: i, tag: a });
+        }
+        count = follow(both, labels, pairs, count, i, p, q, a);
     }
-    Tried::Agrees(count)
+    Ok(count)
 }
 
 // Each listed word is tried.
-fn seek(
-    table: &[u8],
-    index: &[u64],
-    work: &[u16],
-    g: Grid,
-    m: usize,
-    s: usize,
-    labels: &mut [usize],
-    pairs: &mut [usize],
-    lim: Limits,
-) -> Sighting
-    requires tables { Tables lim table.now index.now g work.now m s × Stored s m labels.old pairs.old }
-    requires searching { Searching g.tags (given lim table.now) (standing g work.now 0 m) 1 0 0 labels.old pairs.old }
-    ensures { Sought g.tags (given lim table.now) (standing g work.now 0 m) s m pairs.new result }
+fn seek(both: Both, labels: &mut [usize], pairs: &mut [usize]) -> Result<(), Difference>
+    requires tables { TablesOf both × Stored both.states both.rows labels.old pairs.old }
+    requires searching { Searching both.grid.tags (first both) (second both) 1 0 0 labels.old pairs.old }
+    ensures { Sought both.entry.grid.tags (first both.entry) (second both.entry) both.entry.states both.entry.rows pairs.new result }
 {
     let mut one = [0u8; BUFFER];
     let mut two = [0u8; BUFFER];
     let mut n = 1;
     let mut i = 0;
+    // Stays: more words are listed while it runs.
     while i < n {
-        let seen = try_word(
-            table, index, work, g, m, s, labels, pairs, n, i, &mut one, &mut two, lim,
-        );
-        match seen {
-            Tried::Agrees(count) => {
-                n = count;
-                i += 1;
-            }
-            Tried::Differs(tag) => return Sighting::At { word: i, tag },
-        }
+        n = try_word(both, labels, pairs, n, i, &mut one, &mut two)?;
+        i += 1;
     }
-    Sighting::Nowhere
+    Ok(())
 }
 
-// Whether the table of s states in the bytes and that in the first m rows make the same of every sentence. If not, a sentence is written to the front of `out`.
-pub fn compare(
-    table: &[u8],
-    index: &[u64],
-    work: &[u16],
-    g: Grid,
-    m: usize,
-    s: usize,
-    out: &mut [u8],
-    lim: Limits,
-) -> Verdict
-    requires { Tables lim table.now index.now g work.now m s × (512 ≤ length out.old) }
-    ensures { Judged g.tags (given lim table.now) (standing g work.now 0 m) out.old out.new result }
+// None if both make the same of every sentence. If not, a sentence on which they differ is written to the front of `out`: how many tags it has.
+pub fn compare(both: Both, out: &mut [u8]) -> Option<usize>
+    requires { TablesOf both × (512 ≤ length out.old) }
+    ensures { Judged both.entry.grid.tags (first both.entry) (second both.entry) out.old out.new result }
 {
     let mut labels = [0usize; LABELS];
     let mut pairs = [0usize; NUMBERS * LABELS];
-    listing::number_labels(&mut labels, s + m);
-    link(&mut labels, &mut pairs, s + m, 0, 0, s, 0, 0, 0, 0);
-    let found = seek(table, index, work, g, m, s, &mut labels, &mut pairs, lim);
-    match found {
-        Sighting::Nowhere => Verdict::Same,
-        Sighting::At { word, tag } => Verdict::Differs(listing::write_sentence(
+    let s = both.states;
+    let total = s + both.rows;
+    listing::number_labels(&mut labels, total);
+    link(&mut labels, &mut pairs, total, 0, 0, s, 0, 0, 0, 0);
+    match seek(both, &mut labels, &mut pairs) {
+        Ok(()) => None,
+        Err(Difference { word, tag }) => Some(listing::write_sentence(
             &pairs,
             word + 1,
-            g.tags,
+            both.grid.tags,
             word,
             tag,
             out,

@@ -26,11 +26,8 @@ fn write_steps(work: &mut [u16], g: Grid)
     requires rows_nonzero { (0 < g.rows) × Fits g FINAL 0 }
     ensures { Stepping g work.old work.new 0 identity 0 g.tags }
 {
-    let tags = g.tags;
-    let mut a = 0;
-    while a < tags {
+    for a in 0..g.tags {
         write_step(work, g, a);
-        a += 1;
     }
 }
 

@@ -1,6 +1,5 @@
 -- Parts that are read one after the other: how far a loop has come.
 use Prim.Native.Nat.{ℕ, suc, ◌+◌, ◌<◌, ◌≤◌, ◌-◌}
-use native.Mathlib.Nat.{zero-add}
 use native.Mathlib.Decide.{dec_lt}
 use native.Mathlib.Omega.{arith}
 use mathlib.Core.Path.{◌≡◌, refl, sym, ap, ◌∙◌}
@@ -10,16 +9,10 @@ use lib.Seq.{drop-drop, get_or_at}
 use Rattle.answers.specs.Outcome.{Outcome, result, refused, and_then}
 use Rattle.tables.specs.Bytes.{joined}
 use Rattle.tables.specs.Decode.{malformed, many}
-use Rattle.steps.specs.Part.{Part, PartRead}
-use Rattle.steps.specs.declared.Reached.{Reached}
-use Rattle.steps.specs.declared.Reached.TheVariants.{To, Malformed}
+use Rattle.steps.specs.Part.{Part}
 
 abbrev pub prepend : {A : Type 0} → List A → Outcome (List A) → Outcome (List A)
 prepend l o = and_then o (λ vs. result (l ++ vs))
-
-prepend_none : {A : Type 0} (o : Outcome (List A)) → prepend [] o ≡ o
-prepend_none (result vs) = refl
-prepend_none (refused n p) = refl
 
 prepend_more : {A : Type 0} (l : List A) (v : A) (o : Outcome (List A)) → prepend l (and_then o (λ vs. result (v ∷ vs))) ≡ prepend (l ++ (v ∷ [])) o
 prepend_more l v (result vs) = rw append_assoc refl
@@ -39,17 +32,6 @@ pub record Progress {A : Type 0} (read : List ℕ → Outcome A) (bytes : A → 
   pub holds : (i : ℕ) → i < n → Holds i (get_or parts i d)
 
 module _ {A : Type 0} (read : List ℕ → Outcome A) (bytes : A → List ℕ) (d : A) (bs : List ℕ) (from : ℕ) where
-  pub progress_none : (Holds : ℕ → A → Type 0) → from ≤ length bs → Progress read bytes d Holds bs from 0 from
-  progress_none Holds h =
-      record {
-        parts = [];
-        count = refl;
-        more = λ m. rw zero-add (sym (prepend_none (many read bytes m (drop from bs))));
-        end = omega arith;
-        inside = h;
-        holds = λ i g. absurd (omega arith);
-      }
-
   module _ (Holds Holds' : ℕ → A → Type 0) (Held : A → Type 0) (n to to' : ℕ) (p : Progress read bytes d Holds bs from n to) (v : Part read bytes Held bs to to') where
     more-next : (m : ℕ) → many read bytes (n + 1 + m) (drop from bs) ≡ prepend (p.parts ++ (v.value ∷ [])) (many read bytes m (drop to' bs))
     more-next m =
@@ -111,16 +93,3 @@ module _ {A : Type 0} (read : List ℕ → Outcome A) (bytes : A → List ℕ) (
         ap (λ (i : ℕ). many read bytes i (drop from bs)) (sym left)
         ∙ p.more (suc (m - (n + 1)))
         ∙ ap (λ (o : Outcome (List A)). prepend p.parts o) turn
-
-  -- a turn of a loop that reads one part more, and the turn at which it stops
-  module _ (Holds : ℕ → A → Type 0) (Held : A → Type 0) (n to : ℕ) (r : Reached) (p : Progress read bytes d Holds bs from n to) (v : PartRead read bytes Held bs to r) where
-    pub turn : (Holds' : ℕ → A → Type 0) (to' : ℕ) → r ≡ To to' → ((i : ℕ) (u : A) → i < n → Holds i u → Holds' i u) → ((u : A) → Held u → Holds' n u)
-        → Progress read bytes d Holds' bs from (n + 1) to'
-    turn Holds' to' e keep last =
-        let part : Part read bytes Held bs to to' = rw e at v in
-        progress_next Holds Holds' Held n to to' p part keep (last part.value part.holds)
-
-    pub stopped : (m : ℕ) (Whole : List A → Type 0) → r ≡ Malformed → n < m → PartRead (many read bytes m) (joined bytes) Whole bs from r
-    stopped m Whole e h =
-        let stop : read (drop to bs) ≡ malformed = rw e at v in
-        rw e (progress_not Holds n to p m h stop)

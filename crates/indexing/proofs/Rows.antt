@@ -5,7 +5,7 @@ use mathlib.Core.Path.{◌≡◌, refl, sym}
 use mathlib.Core.List.{List, [], ◌∷◌}
 use lib.ListN.{length, drop, get_or, length-drop, length-append}
 use lib.Seq.{drop-drop}
-use borrow.Author.Tests.{eq-eqb, ne_eqb, lt-leb, le-leb}
+use borrow.Author.Tests.{eq-eqb, le-leb}
 use Rattle.transducers.specs.Table.{Row, no_step}
 use Rattle.tables.specs.Bytes.{tagged, joined, step_bytes, row_bytes}
 use Rattle.tables.specs.Decode.{word, malformed, many, read_step, read_row}
@@ -13,8 +13,7 @@ use Rattle.tables.proofs.Words.{length-tagged}
 use Rattle.tables.proofs.Parts.{row_at}
 use Rattle.steps.specs.Entry.{EntryOf, FinalEntry}
 use Rattle.steps.specs.Part.{PartRead, SameBelow}
-use Rattle.steps.specs.declared.Reached.{Reached}
-use Rattle.steps.specs.declared.Reached.TheVariants.{To, Malformed}
+use Rattle.std.specs.Prelude.{Option, Some, None}
 use Rattle.steps.proofs.Places.{drop_two, kept_at, row_inside}
 use Rattle.indexing.specs.Entries.{StepEntries, RowEntries}
 
@@ -49,25 +48,7 @@ module _ (most k s : ℕ) (bs : List ℕ) (at : ℕ) where
     two_bytes : drop at bs ≡ get_or bs at 0 ∷ get_or bs (at + 1) 0 ∷ drop (at + 2) bs
     two_bytes = drop_two bs at (omega arith)
 
-    other_case : (x n : ℕ) (l : List ℕ) → (x ≡ 0x31 → ⊥) → read_row most k s (x ∷ n ∷ l) ≡ malformed
-    other_case x n l e = cc (ne_eqb x 0x31 e)
-
-    pub row_other : (get_or bs at 0 ≡ 0x31 → ⊥) → read_row most k s (drop at bs) ≡ malformed
-    row_other e = rw two_bytes (other_case (get_or bs at 0) (get_or bs (at + 1) 0) (drop (at + 2) bs) e)
-
-    held_case : (x n : ℕ) (l : List ℕ) → x ≡ 0x31 → most < n → read_row most k s (x ∷ n ∷ l) ≡ malformed
-    held_case x n l e g = cc (eq-eqb x 0x31 e, lt-leb n most g)
-
-    pub row-held : get_or bs at 0 ≡ 0x31 → most < get_or bs (at + 1) 0 → read_row most k s (drop at bs) ≡ malformed
-    row-held e g = rw two_bytes (held_case (get_or bs at 0) (get_or bs (at + 1) 0) (drop (at + 2) bs) e g)
-
     module _ (e : get_or bs at 0 ≡ 0x31) (few : get_or bs (at + 1) 0 ≤ most) where
-      count_case : (x n : ℕ) (l : List ℕ) → x ≡ 0x31 → n ≤ most → (length (word 0x32 k l) ≡ n → ⊥) → read_row most k s (x ∷ n ∷ l) ≡ malformed
-      count_case x n l e g d = cc (eq-eqb x 0x31 e, le-leb n most g, ne_eqb (length (word 0x32 k l)) n d)
-
-      pub row_count : (length (word 0x32 k (drop (at + 2) bs)) ≡ get_or bs (at + 1) 0 → ⊥) → read_row most k s (drop at bs) ≡ malformed
-      row_count d = rw two_bytes (count_case (get_or bs at 0) (get_or bs (at + 1) 0) (drop (at + 2) bs) e few d)
-
       steps_case : (x n : ℕ) (l : List ℕ) → x ≡ 0x31 → n ≤ most → length (word 0x32 k l) ≡ n
           → many (read_step k s) step_bytes k (drop (length (tagged 0x32 (word 0x32 k l))) l) ≡ malformed
           → read_row most k s (x ∷ n ∷ l) ≡ malformed
@@ -83,11 +64,11 @@ module _ (most k s : ℕ) (bs : List ℕ) (at : ℕ) where
           behind : drop end bs ≡ drop (length (tagged 0x32 (word 0x32 k (drop (at + 2) bs)))) (drop (at + 2) bs)
           behind = rw (ends, ← length-tagged 0x32 (word 0x32 k (drop (at + 2) bs))) (sym (drop-drop (length (tagged 0x32 (word 0x32 k (drop (at + 2) bs)))) (at + 2) bs))
 
-          pub row-whole : (r : Reached) → PartRead (many (read_step k s) step_bytes k) (joined step_bytes) (StepEntries k bs ix (cell + 1)) bs end r
+          pub row-whole : (r : Option ℕ) → PartRead (many (read_step k s) step_bytes k) (joined step_bytes) (StepEntries k bs ix (cell + 1)) bs end r
               → PartRead (read_row most k s) row_bytes (RowEntries k bs ix cell) bs at r
-          row-whole Malformed m =
+          row-whole None m =
               rw two_bytes (steps_case (get_or bs at 0) (get_or bs (at + 1) 0) (drop (at + 2) bs) e few count (rw behind at m))
-          row-whole (To to) p =
+          row-whole (Some to) p =
               let w = word 0x32 k (drop (at + 2) bs) in
               record {
                 value = record { final = w; steps = p.value };

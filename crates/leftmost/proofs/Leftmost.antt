@@ -1,5 +1,5 @@
 -- The answer: of the part of a sentence, one at most, and 002's leftmost occurrence.
-use Prim.Native.Nat.{ℕ, ◌+◌, ◌-◌, ◌<◌}
+use Prim.Native.Nat.{ℕ, ◌+◌, ◌<◌}
 use native.Mathlib.Omega.{arith}
 use native.Mathlib.Decide.{dec_lt}
 use mathlib.Core.Path.{◌≡◌, refl, sym, ap, ◌∙◌}
@@ -11,10 +11,9 @@ use Rattle.words.specs.Word.{prefix, Prefix}
 use Rattle.words.proofs.Word.{prefix-append}
 use Rattle.cascades.specs.Leftmost.{OccursAt, Occurs}
 use Rattle.places.proofs.Places.{prefix-short}
-use Rattle.places.specs.declared.Occurrence.{Occurrence}
-use Rattle.places.specs.declared.Occurrence.TheVariants.{At, Nowhere}
+use Rattle.std.specs.Prelude.{Option, Some, None}
 use Rattle.leftmost.specs.Leftmost.{Found}
-use Rattle.places.specs.Places.{Free, LeastWithin}
+use Rattle.places.specs.Places.{Free}
 
 -- ---- the part of s from a place on
 
@@ -24,42 +23,34 @@ place_is begins s from i = ap begins (drop-drop i from s)
 
 module _ (u s : List ℕ) (from : ℕ) where
   -- it begins at no place up to b, and has no room from b on
-  pub part_free : 0 < length u → (b : ℕ) → Free u s from b → length s < b + length u → Found (prefix u) (drop from s) Nowhere
+  pub part_free : 0 < length u → (b : ℕ) → Free u s from b → length s < b + length u → Found (prefix u) (drop from s) None
   part_free some b f short i = place_is (prefix u) s from i ∙ by (dec_lt (from + i) b)
     where
       by : Dec (from + i < b) → prefix u (drop (from + i) s) ≡ false
       by (yes l) = f (from + i) (omega arith) l
       by (no l) = prefix-short u (drop (from + i) s) (omega (arith, length-drop (from + i) s))
 
-  pub part-least : (b i : ℕ) → LeastWithin u s from b i → Found (prefix u) (drop from s) (At (i - from))
-  part-least b i f =
-      let e : from + (i - from) ≡ i = omega (arith, f.after) in
-      record {
-        here = place_is (prefix u) s from (i - from) ∙ ap (λ (n : ℕ). prefix u (drop n s)) e ∙ f.here;
-        least = λ j l. place_is (prefix u) s from j ∙ f.passed (from + j) (omega arith) (omega arith);
-      }
-
 -- ---- the answer
 
 -- there is one answer at most
 module _ (begins : List ℕ → Bool) (s : List ℕ) where
-  pub found_one : (r q : Occurrence) → Found begins s r → Found begins s q → r ≡ q
-  found_one (At i) (At j) f g = ap At (by (dec_lt i j) (dec_lt j i))
+  pub found_one : (r q : Option ℕ) → Found begins s r → Found begins s q → r ≡ q
+  found_one (Some i) (Some j) f g = ap {B = Option ℕ} Some (by (dec_lt i j) (dec_lt j i))
     where
       by : Dec (i < j) → Dec (j < i) → i ≡ j
       by (yes h) d = absurd (false≢true (sym (g.least i h) ∙ f.here))
       by (no h) (yes l) = absurd (false≢true (sym (f.least j l) ∙ g.here))
       by (no h) (no l) = omega arith
-  found_one (At i) Nowhere f g = absurd (false≢true (sym (g i) ∙ f.here))
-  found_one Nowhere (At i) f g = absurd (false≢true (sym (f i) ∙ g.here))
-  found_one Nowhere Nowhere f g = refl
+  found_one (Some i) None f g = absurd (false≢true (sym (g i) ∙ f.here))
+  found_one None (Some i) f g = absurd (false≢true (sym (f i) ∙ g.here))
+  found_one None None f g = refl
 
 module _ (u s : List ℕ) where
   begins_there : (z : List ℕ) → OccursAt u s z → prefix u (drop (length z) s) ≡ true
   begins_there z o = rw (o.1, drop-append_seam z (u ++ o.0)) (prefix-append u o.0)
 
   -- the tags before that place are the front of 002's leftmost occurrence: they begin the front of every other
-  pub at_leftmost : (i : ℕ) → Found (prefix u) s (At i) → (z : List ℕ) → OccursAt u s z → Prefix (take i s) z
+  pub at_leftmost : (i : ℕ) → Found (prefix u) s (Some i) → (z : List ℕ) → OccursAt u s z → Prefix (take i s) z
   at_leftmost i f z o = by (dec_lt (length z) i)
     where
       by : Dec (length z < i) → Prefix (take i s) z
@@ -71,5 +62,5 @@ module _ (u s : List ℕ) where
           }
 
   -- u occurs nowhere, as 002 has it
-  pub nowhere-none : Found (prefix u) s Nowhere → Occurs u s → ⊥
+  pub nowhere-none : Found (prefix u) s None → Occurs u s → ⊥
   nowhere-none f o = false≢true (sym (f (length o.0)) ∙ begins_there o.0 o.1)

@@ -6,8 +6,7 @@ ghost use Rattle.words.specs.Word.{prefix};
 ghost use Rattle.places.specs.Places.{Places, Free, FoundWithin};
 ghost use Rattle.leftmost.specs.Leftmost.{Found};
 
-use places::{BLOCK, Occurrence, WIDE};
-use words::lesser;
+use places::{BLOCK, WIDE};
 
 // How far a search may go from `from` on, up to `to`, past blocks of 32 places at none of which u begins.
 fn pass(s: &[u8], from: usize, to: usize, u: &[u8]) -> usize
@@ -16,7 +15,7 @@ fn pass(s: &[u8], from: usize, to: usize, u: &[u8]) -> usize
 {
     let mut i = from;
     while i + WIDE <= to {
-        if places::may_begin(s, i, u) {
+        if places::may_begin::<WIDE, false>(s, i, u) {
             return i;
         }
         i += WIDE;
@@ -26,7 +25,7 @@ fn pass(s: &[u8], from: usize, to: usize, u: &[u8]) -> usize
 
 // The first place from `from` up to `to` at which u begins. It looks closer only at 16 places where it cannot pass, and place by place only if u
 // may begin there; the last block may overlap the one before it.
-fn sweep(s: &[u8], from: usize, to: usize, u: &[u8]) -> Occurrence
+fn sweep(s: &[u8], from: usize, to: usize, u: &[u8]) -> Option<usize>
     requires places { Places u.now s.now from to }
     requires from_bound { from + 16 ≤ to }
     ensures { FoundWithin u.now s.now from to result }
@@ -34,20 +33,19 @@ fn sweep(s: &[u8], from: usize, to: usize, u: &[u8]) -> Occurrence
     let mut i = from;
     while i < to {
         let passed = pass(s, i, to, u);
-        let block = lesser(passed, to - BLOCK);
-        if places::may_begin_close(s, block, u) {
-            let found = places::seek(s, block, block + BLOCK, u);
-            if let Occurrence::At(at) = found {
-                return Occurrence::At(at);
+        let block = passed.min(to - BLOCK);
+        if places::may_begin::<BLOCK, true>(s, block, u) {
+            if let Some(at) = places::seek(s, block, block + BLOCK, u) {
+                return Some(at);
             }
         }
         i = passed + BLOCK;
     }
-    Occurrence::Nowhere
+    None
 }
 
 // The same. It looks at four places a round for u's first tag, and place by place where it stands.
-fn seek_front(s: &[u8], from: usize, to: usize, u: &[u8]) -> Occurrence
+fn seek_front(s: &[u8], from: usize, to: usize, u: &[u8]) -> Option<usize>
     requires { Places u.now s.now from to }
     ensures { FoundWithin u.now s.now from to result }
 {
@@ -55,9 +53,8 @@ fn seek_front(s: &[u8], from: usize, to: usize, u: &[u8]) -> Occurrence
     let mut i = from;
     while i + 4 <= to {
         if s[i] == first || s[i + 1] == first || s[i + 2] == first || s[i + 3] == first {
-            let found = places::seek(s, i, i + 4, u);
-            if let Occurrence::At(at) = found {
-                return Occurrence::At(at);
+            if let Some(at) = places::seek(s, i, i + 4, u) {
+                return Some(at);
             }
         }
         i += 4;
@@ -67,7 +64,7 @@ fn seek_front(s: &[u8], from: usize, to: usize, u: &[u8]) -> Occurrence
 
 // The same. Fewer places than a block has are left to `seek_front`. Of more the first one is tried before all: behind a match the next often begins
 // there.
-fn search(s: &[u8], from: usize, to: usize, u: &[u8]) -> Occurrence
+fn search(s: &[u8], from: usize, to: usize, u: &[u8]) -> Option<usize>
     requires { Places u.now s.now from to }
     ensures { FoundWithin u.now s.now from to result }
 {
@@ -75,23 +72,20 @@ fn search(s: &[u8], from: usize, to: usize, u: &[u8]) -> Occurrence
         return seek_front(s, from, to, u);
     }
     if places::begins(s, from, u) {
-        return Occurrence::At(from);
+        return Some(from);
     }
     sweep(s, from, to, u)
 }
 
 // The least place at which u begins in the part of s from `from` on, counted in the part; or nowhere.
-pub fn find(s: &[u8], from: usize, u: &[u8]) -> Occurrence
+pub fn find(s: &[u8], from: usize, u: &[u8]) -> Option<usize>
     requires { (0 < length u.now) × (from ≤ length s.now) }
     ensures { Found (prefix u.now) (drop from s.now) result }
 {
     let n = u.len();
     if s.len() - from < n {
-        return Occurrence::Nowhere;
+        return None;
     }
-    let found = search(s, from, s.len() - n + 1, u);
-    if let Occurrence::At(i) = found {
-        return Occurrence::At(i - from);
-    }
-    Occurrence::Nowhere
+    let i = search(s, from, s.len() - n + 1, u)?;
+    Some(i - from)
 }

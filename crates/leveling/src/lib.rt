@@ -5,7 +5,7 @@ ghost use Rattle.std.specs.Prelude.{ℕ, ◌+◌, ◌*◌, ◌≤◌, ◌<◌, l
 ghost use Rattle.words.specs.Decides.{Decides};
 ghost use Rattle.leveling.specs.Level.{Level, Linked};
 
-use steps::{base_of, count_of};
+use steps::{Size, base_of, count_of};
 
 // Whether the step on a puts out one tag more than the state holds, less what the next state holds.
 fn level_step(index: &[u64], cell: usize, a: usize) -> bool
@@ -17,38 +17,29 @@ fn level_step(index: &[u64], cell: usize, a: usize) -> bool
     let put = count_of(e);
     let holds = count_of(index[next - 1]);
     let held = count_of(index[cell]);
-    if put + holds != held + 1 {
-        return false;
-    }
-    true
+    put + holds == held + 1
 }
 
 fn level_row(index: &[u64], cell: usize, k: usize) -> bool
     requires { (cell + k < length index.now) × ((a : ℕ) → a < k → Linked index.now cell a) }
     ensures { Decides result ((a : ℕ) → a < k → Level index.now cell a) }
 {
-    let mut a = 0;
-    while a < k {
+    for a in 0..k {
         if !level_step(index, cell, a) {
             return false;
         }
-        a += 1;
     }
     true
 }
 
-pub fn level_rows(index: &[u64], k: usize, s: usize) -> bool
-    requires { (s * (k + 1) ≤ length index.now) × ((q a : ℕ) → q < s → a < k → Linked index.now (q * (k + 1)) a) }
-    ensures { Decides result ((q a : ℕ) → q < s → a < k → Level index.now (q * (k + 1)) a) }
+pub fn level_rows(index: &[u64], size: Size) -> bool
+    requires { (size.states * (size.tags + 1) ≤ length index.now) × ((q a : ℕ) → q < size.states → a < size.tags → Linked index.now (q * (size.tags + 1)) a) }
+    ensures { Decides result ((q a : ℕ) → q < size.states → a < size.tags → Level index.now (q * (size.tags + 1)) a) }
 {
-    let mut q = 0;
-    let mut cell = 0;
-    while q < s {
-        if !level_row(index, cell, k) {
+    for q in 0..size.states {
+        if !level_row(index, q * (size.tags + 1), size.tags) {
             return false;
         }
-        cell += k + 1;
-        q += 1;
     }
     true
 }

@@ -1,4 +1,3 @@
 -- Labels and listed words in slices of numbers: laws.
 pub mod Labels
-pub mod Pairs
 pub mod Words

@@ -17,20 +17,9 @@ pub fn number_labels(labels: &mut [usize], total: usize)
     requires { total ≤ length labels.old }
     ensures { Labeled labels.old labels.new total (λ x. x) }
 {
-    let mut x = 0;
-    while x < total {
-        labels[x] = x;
-        x += 1;
+    for (x, label) in labels[..total].iter_mut().enumerate() {
+        *label = x;
     }
-}
-
-fn rename_one(label: usize, one: usize, other: usize) -> usize
-    ensures { result ≡ renamed one other label }
-{
-    if label == one {
-        return other;
-    }
-    label
 }
 
 // The label `one` becomes `other`.
@@ -38,10 +27,10 @@ fn rename(labels: &mut [usize], total: usize, one: usize, other: usize)
     requires { total ≤ length labels.old }
     ensures { Labeled labels.old labels.new total (λ x. renamed one other (label_at labels.old x)) }
 {
-    let mut x = 0;
-    while x < total {
-        labels[x] = rename_one(labels[x], one, other);
-        x += 1;
+    for label in &mut labels[..total] {
+        if *label == one {
+            *label = other;
+        }
     }
 }
 
@@ -51,10 +40,7 @@ fn put_pair(pairs: &mut [usize], n: usize, left: usize, right: usize, before: us
     ensures { PairPut pairs.old pairs.new n left right before tag }
 {
     let at = NUMBERS * n;
-    pairs[at] = left;
-    pairs[at + 1] = right;
-    pairs[at + 2] = before;
-    pairs[at + 3] = tag;
+    pairs[at..at + NUMBERS].copy_from_slice(&[left, right, before, tag]);
 }
 
 // The states that the j-th word leads to.

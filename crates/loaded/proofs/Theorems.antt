@@ -14,9 +14,9 @@ use Rattle.limits.proofs.Range.{within-result}
 use Rattle.words.specs.Word.{Below}
 use Rattle.answers.specs.Outcome.{Outcome, result, refused, nothing, and_then, provided}
 use Rattle.answers.specs.Slice.{fitting}
-use Rattle.answers.specs.Answer.{write_outcome}
-use Rattle.answers.specs.declared.WriteAnswer.{WriteAnswer}
-use Rattle.answers.specs.declared.WriteAnswer.TheVariants.{Written}
+use Rattle.std.specs.Prelude.{Result, Ok}
+use Rattle.answers.specs.Answer.{outcome_of}
+use Rattle.answers.specs.declared.Refusal.{Refusal}
 use Rattle.answers.proofs.Outcome.{passed, went}
 use Rattle.answers.proofs.Slice.{front-result}
 use Rattle.sentences.specs.Run.{highest, admitted, run}
@@ -114,11 +114,11 @@ module _ (lim : Limits) (table : List ℕ) where
 
 -- ---- the call
 
-module _ (lim : Limits) (table before after : List ℕ) (answer : WriteAnswer) (call : LoadRan lim table before after answer) where
-  written_is : (n : ℕ) → answer ≡ Written n → load_answer lim table (length before) ≡ result (take n after)
-  written_is n e = front-result n before after (load_answer lim table (length before)) (ap write_outcome (sym e) ∙ call.answered) call.wrote
+module _ (lim : Limits) (table before after : List ℕ) (answer : Result ℕ Refusal) (call : LoadRan lim table before after answer) where
+  written_is : (n : ℕ) → answer ≡ Ok n → load_answer lim table (length before) ≡ result (take n after)
+  written_is n e = front-result n before after (load_answer lim table (length before)) (ap outcome_of (sym e) ∙ call.answered) call.wrote
 
   -- the first n numbers run as the table
-  pub call_runs : Below 0x100 table → (n : ℕ) → answer ≡ Written n
+  pub call_runs : Below 0x100 table → (n : ℕ) → answer ≡ Ok n
       → (tail sentence : List ℕ) (out : ℕ) → loaded_run lim (take n after ++ tail) sentence out ≡ table_run lim table sentence out
   call_runs bytes n e = runs_as_table lim table bytes (length before) (take n after) (written_is n e)

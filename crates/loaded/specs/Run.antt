@@ -1,12 +1,12 @@
 -- What any numbers make of a sentence. What the sentence's way meets is tested there, and nothing else is looked at.
-use Rattle.std.specs.Prelude.{ℕ, ◌+◌, ◌*◌, ◌/◌, ◌%◌, true, false, ◌&&◌, List, [], ◌∷◌, ◌++◌, map, eqb, leb, ltb, length, take, drop, get_or}
+use Rattle.std.specs.Prelude.{ℕ, ◌+◌, ◌*◌, ◌/◌, ◌%◌, true, false, ◌&&◌, List, [], ◌∷◌, ◌++◌, map, eqb, leb, ltb, length, take, drop, get_or, Result}
 use Rattle.limits.specs.Limits.{fewest_tags}
 use Rattle.limits.specs.Within.{within}
 use Rattle.limits.specs.declared.Limits.{Limits}
 use Rattle.answers.specs.Outcome.{Outcome, result, and_then, provided}
 use Rattle.answers.specs.Slice.{fitting}
 use Rattle.answers.specs.Answer.{Filled}
-use Rattle.answers.specs.declared.WriteAnswer.{WriteAnswer}
+use Rattle.answers.specs.declared.Refusal.{Refusal}
 use Rattle.sentences.specs.Run.{highest, admitted}
 use Rattle.tables.specs.Decode.{decode_within}
 use Rattle.loaded.specs.Numbers.{row_size, resting, numbers}
@@ -53,5 +53,5 @@ abbrev pub load_answer : Limits → List ℕ → ℕ → Outcome (List ℕ)
 load_answer lim bytes room = and_then (decode_within lim bytes) (λ d. fitting room (numbers d.tags d.table))
 
 -- loading has ended: the answer, and the numbers at exit
-abbrev pub LoadRan : Limits → List ℕ → List ℕ → List ℕ → WriteAnswer → Type 0
+abbrev pub LoadRan : Limits → List ℕ → List ℕ → List ℕ → Result ℕ Refusal → Type 0
 LoadRan lim bytes before after answer = Filled (load_answer lim bytes (length before)) before after answer

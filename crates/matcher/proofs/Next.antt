@@ -13,7 +13,7 @@ use Rattle.words.specs.Overlap.{overlap}
 use Rattle.words.proofs.Word.{prefix-front}
 use Rattle.words.proofs.Overlap.{overlap-prefix}
 use Rattle.borders.specs.Border.{border}
-use Rattle.borders.proofs.Border.{overlap-grown, border-below, grown-none, grown_shorter, grown-longer, grown}
+use Rattle.borders.proofs.Border.{overlap-grown, border-below, grown_shorter, grown-longer, grown}
 use Rattle.cascades.specs.Pattern.{plain}
 use Rattle.cascades.specs.Rule.{Kind, once, everywhere}
 use Rattle.cascades.specs.Ending.{before}
@@ -22,19 +22,13 @@ use Rattle.minimal.specs.OneRule.{states, borders}
 use Rattle.minimal.proofs.Matcher.{moves-after, moves-match, moves_on}
 use Rattle.minimal.proofs.OneRule.{borders_move, overlap-step}
 use Rattle.minimal.proofs.Ending.{none_matched}
-use Rattle.workspace.specs.declared.Grid.{Grid}
-use Rattle.workspace.specs.Entries.{NEXT}
-use Rattle.workspace.specs.Cells.{Kept, InRows}
-use Rattle.matcher.specs.Next.{goes, turns, restarts, Behind}
+use Rattle.matcher.specs.Next.{goes, turns, restarts}
 
 module _ (count e a next : ℕ) where
   pub restarts-end : a ≡ e → 0 ≡ restarts count e a next
   restarts-end f = cc (eq-eqb a e f)
 
   module _ (other : a ≡ e → ⊥) where
-    pub restarts-none : next ≡ count → 0 ≡ restarts count e a next
-    restarts-none f = cc (ne_eqb a e other, eq-eqb next count f)
-
     pub restarts-next : (next ≡ count → ⊥) → next ≡ restarts count e a next
     restarts-next f = cc (ne_eqb a e other, ne_eqb next count f)
 
@@ -65,9 +59,6 @@ module _ (u : List ℕ) where
   pub goes_on : (j a : ℕ) → j < length u → get_or u j 0 ≡ a → j + 1 ≡ goes u j a
   goes_on j a h same = add-one j ∙ sym (goes-grown j a h ∙ grown-longer u a j same)
 
-  pub goes_first : (j a : ℕ) → j < length u → (get_or u j 0 ≡ a → ⊥) → j ≡ 0 → 0 ≡ goes u j a
-  goes_first j a h other none = sym (goes-grown j a h ∙ grown-none u a j other none)
-
   pub goes_back : (j a : ℕ) → j < length u → (get_or u j 0 ≡ a → ⊥) → 0 < j → goes u (border u j) a ≡ goes u j a
   goes_back j a h other some =
       goes-grown (border u j) a (omega (arith, border-below u j some (omega arith))) ∙ sym (goes-grown j a h ∙ grown_shorter u a j h other some)
@@ -95,12 +86,3 @@ module _ (u : List ℕ) where
       at (no d) =
           let low : overlap u (take j u ++ (a ∷ [])) < length u = omega (arith, (overlap-step u j a l).1) in
           cc (ne_eqb (goes u j a) (length u) (λ f. omega (arith, f, goes-is j a l)), goes-is j a l, moves_on u 0 0 (borders everywhere u) j a l low)
-
-module _ (g : Grid) (u : List ℕ) (j : ℕ) where
-  -- as long as another row changes
-  pub behind-kept : (W X : List ℕ) (r back : ℕ) → 0 < g.depth → (0 < j → back < r) → Kept g W X (InRows r (r + 1)) → Behind g W back u j → Behind g X back u j
-  behind-kept W X r back deep earlier kept b =
-      record {
-        inside = b.inside;
-        next_is = λ some h a ha. kept.same back a NEXT (omega arith) deep (λ i. omega (arith, i.0, earlier some)) ∙ b.next_is some h a ha;
-      }

@@ -10,7 +10,6 @@ ghost use Rattle.workspace.specs.Cells.{Sized};
 ghost use Rattle.matcher.specs.Next.{goes, restarts, Behind};
 
 use cascades::Rule;
-use words::wide;
 use workspace::{Grid, NEXT, get};
 
 // The state after the tag a where the first j tags were matched: one tag more, or where the row `back`, that of their longest border, leads.
@@ -23,7 +22,7 @@ pub fn next_of(work: &[u16], g: Grid, back: usize, u: &[u8], j: usize, a: usize)
     if j == u.len() {
         return j;
     }
-    if wide(u[j]) == a {
+    if usize::from(u[j]) == a {
         return j + 1;
     }
     if j == 0 {

@@ -19,16 +19,10 @@ module _ {lim : Limits} (bs ix : List ℕ) (k : ℕ) (l : Loaded lim bs k ix) wh
     abbrev y : Row
     y = row l.table q
 
-    pub held-count : count_of (get_or ix cell 0) ≡ length y.final
-    held-count = ap (λ (c : ℕ). count_of (get_or ix c 0)) is ∙ (l.cells q h).final.count_is
-
     pub step_count : (a : ℕ) → a < k → count_of (get_or ix (cell + 1 + a) 0) ≡ length (get_or y.steps a no_step).output
     step_count a ha =
         ap (λ (c : ℕ). count_of (get_or ix (c + 1 + a) 0)) is
         ∙ (omega (arith, ((l.cells q h).steps a ha).count_is, l.valid.balanced q a h ha, l.valid.held q h, read-few lim bs _ l.decodes))
-
-    pub measure_start : (n : ℕ) → n ≡ length (behind y.final) → n + length (steps_behind (drop 0 y.steps)) ≡ length (row_behind y)
-    measure_start n e = omega (arith, e, length-append (behind y.final) (steps_behind y.steps))
 
     pub measure_next : (total n a : ℕ) → a < k → total + length (steps_behind (drop a y.steps)) ≡ length (row_behind y)
         → n ≡ length (behind (get_or y.steps a no_step).output) → total + n + length (steps_behind (drop (a + 1) y.steps)) ≡ length (row_behind y)

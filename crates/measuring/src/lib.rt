@@ -11,7 +11,7 @@ ghost use Rattle.decoder.specs.Index.{Loaded};
 ghost use Rattle.loaded.specs.Numbers.{row_behind, numbers};
 
 use entries::behind_of;
-use steps::count_of;
+use steps::{Size, count_of};
 
 // How many tags of a state's words stand behind the rows.
 fn measure_row(index: &[u64], k: usize, cell: usize) -> usize
@@ -19,37 +19,28 @@ fn measure_row(index: &[u64], k: usize, cell: usize) -> usize
     ensures { ((lim : Limits) (bs : List ℕ) (l : Loaded lim bs k index.now) (q : ℕ) → q < length l.table → cell ≡ q * (k + 1) → result ≡ length (row_behind (row l.table q))) × (result ≤ 12544) }
 {
     let mut total = behind_of(count_of(index[cell]));
-    let mut a = 0;
-    while a < k {
+    for a in 0..k {
         total += behind_of(count_of(index[cell + 1 + a]));
-        a += 1;
     }
     total
 }
 
 // How many numbers a table has.
-fn measure(index: &[u64], k: usize, s: usize) -> usize
-    requires { (s * (k + 1) ≤ length index.now) × (k ≤ most_tags) × (s ≤ most_states) }
-    ensures { (lim : Limits) (bs : List ℕ) (l : Loaded lim bs k index.now) → length l.table ≡ s → result ≡ length (numbers k l.table) }
+fn measure(index: &[u64], size: Size) -> usize
+    requires { (size.states * (size.tags + 1) ≤ length index.now) × (size.tags ≤ most_tags) × (size.states ≤ most_states) }
+    ensures { (lim : Limits) (bs : List ℕ) (l : Loaded lim bs size.tags index.now) → length l.table ≡ size.states → result ≡ length (numbers size.tags l.table) }
 {
-    let mut total = 1 + s * (2 * k + 2);
-    let mut cell = 0;
-    let mut q = 0;
-    while q < s {
-        total += measure_row(index, k, cell);
-        cell += k + 1;
-        q += 1;
+    let mut total = 1 + size.states * (2 * size.tags + 2);
+    for q in 0..size.states {
+        total += measure_row(index, size.tags, q * (size.tags + 1));
     }
     total
 }
 
 // Whether a table's numbers have room. As many as it has bytes are always enough, and then they need not be counted.
-pub fn fits(index: &[u64], k: usize, s: usize, bytes: usize, room: usize) -> bool
-    requires { (s * (k + 1) ≤ length index.now) × (k ≤ most_tags) × (s ≤ most_states) }
-    ensures { (lim : Limits) (bs : List ℕ) (l : Loaded lim bs k index.now) → length l.table ≡ s → bytes ≡ length (encode k l.table) → Decides result (length (numbers k l.table) ≤ room) }
+pub fn fits(index: &[u64], size: Size, bytes: usize, room: usize) -> bool
+    requires { (size.states * (size.tags + 1) ≤ length index.now) × (size.tags ≤ most_tags) × (size.states ≤ most_states) }
+    ensures { (lim : Limits) (bs : List ℕ) (l : Loaded lim bs size.tags index.now) → length l.table ≡ size.states → bytes ≡ length (encode size.tags l.table) → Decides result (length (numbers size.tags l.table) ≤ room) }
 {
-    if bytes <= room {
-        return true;
-    }
-    measure(index, k, s) <= room
+    bytes <= room || measure(index, size) <= room
 }

@@ -1,10 +1,11 @@
 -- The names of the new classes within an old one, linked in order.
+use Rattle.std.proofs.Common.{Ok}
 use Prim.Native.Nat.{ℕ, suc, ◌+◌, ◌≤◌, ◌<◌}
 use native.Mathlib.Omega.{arith}
 use native.Mathlib.Decide.{ℕ_discrete, dec_lt}
 use mathlib.Core.Path.{◌≡◌, sym, ap, ◌∙◌, subst}
 use mathlib.Core.Logic.{◌⊎◌, inl, inr}
-use mathlib.Core.Bool.{Bool, true, false}
+use mathlib.Core.Bool.{Bool}
 use mathlib.Core.List.{List}
 use Rattle.words.proofs.Word.{below_suc}
 use Rattle.workspace.specs.declared.Grid.{Grid}
@@ -13,8 +14,7 @@ use Rattle.workspace.specs.Cells.{at, Kept, Entry, Spare, Put}
 use Rattle.workspace.specs.Holds.{Ready}
 use Rattle.workspace.proofs.Regions.{kept-none, kept_then, kept_wider}
 use Rattle.workspace.proofs.Views.{ready-kept}
-use Rattle.merge.specs.declared.Walked.{Walked}
-use Rattle.merge.specs.Classes.{class_of, new_of, link_of, Key, Partition, Name, Gap, Follows, Parted, Found, Placed, NewName}
+use Rattle.merge.specs.Classes.{class_of, new_of, link_of, Key, Partition, Name, Gap, Follows, Naming, Last, Parted, Found, Placed, NewName}
 use Rattle.merge.proofs.Keys.{key_refl, key_sym, class_same, key_on, key_back, part_on}
 
 -- ---- the walk over the names of a class
@@ -49,14 +49,12 @@ module _ (g : Grid) (W : List ℕ) (base n : ℕ) (first : Bool) (q : ℕ) (hq :
         go (inl lt) = w.passed o lt nm e k
         go (inr d) = other (subst (λ (i : ℕ). Key g W base n first i q) d k)
 
-    pub walk_end : link_of g W base p ≡ 0 → Found g W base n first q (record { at = p; hit = false })
+    pub walk_end : link_of g W base p ≡ 0 → Last g W base n first q p
     walk_end none =
         record {
-          below = w.below;
-          name = w.name;
-          same = w.same;
-          hit = λ e. let z : ◌≡◌ {A = ℕ} 0 1 = cc in absurd (omega arith);
-          miss = λ e. (none, λ o h nm d k. by o h nm d k (s.links p w.below w.name) (dec_lt p o));
+          naming = record { below = w.below; name = w.name; same = w.same };
+          last = none;
+          none = λ o h nm d k. by o h nm d k (s.links p w.below w.name) (dec_lt p o);
         }
       where
         by : (o : ℕ) → o < q → Name g W base o → class_of g W base o ≡ class_of g W base q → Key g W base n first o q
@@ -85,15 +83,8 @@ module _ (g : Grid) (W : List ℕ) (base n : ℕ) (first : Bool) (q : ℕ) (hq :
             pass o lt nm e k (yes above) = f.gap o above lt nm (e ∙ sym w.same)
             pass o lt nm e k (no le) = upto o (omega arith) nm e k
 
-  pub walk-hit : (p : ℕ) → Walking g W base n first q p → Key g W base n first p q → Found g W base n first q (record { at = p; hit = true })
-  walk-hit p w k =
-      record {
-        below = w.below;
-        name = w.name;
-        same = w.same;
-        hit = λ e. k;
-        miss = λ e. let z : ◌≡◌ {A = ℕ} 0 1 = cc in absurd (omega arith);
-      }
+  pub walk-hit : (p : ℕ) → Walking g W base n first q p → Key g W base n first p q → Found g W base n first q (Ok p)
+  walk-hit p w k = (record { below = w.below; name = w.name; same = w.same }, k)
 
 -- ---- one state more
 
@@ -225,93 +216,92 @@ module _ (g : Grid) (W : List ℕ) (base n : ℕ) (first : Bool) (q : ℕ) (hq :
           (λ gap here e. omega (arith, class_back g W base n first q hq s Y (named_wider W Y nm) news q p e, old, s.part.low p (omega arith)))
       by old p name (inr e) = rw e (inl (nm.last, λ o lo hi a b. omega arith))
 
-  module _ (w : Walked) (f : Found g W base n first q w) where
-    -- it joins a name that is alike
-    pub place-hit : (Y : List ℕ) → w.hit ≡ true → Put g W Y (base + q) g.tags NEW w.at → Placed g W Y base n first (q + 1)
-    place-hit Y hit p =
-        parted-next g W base n first q hq s Y wider news (omega (arith, p.here, f.below))
-        (ap (new_of g Y base) p.here ∙ news w.at f.below ∙ f.name ∙ sym p.here)
-        (ap (class_of g W base) p.here ∙ f.same) (subst (λ (i : ℕ). Key g W base n first i q) (sym p.here) (f.hit hit))
-        (λ named. absurd (never named)) (λ o h name. by o name (below_suc o q (omega arith)))
-      where
-        wider : Kept g W Y (Spare g base (base + n) NEW (LINK + 1))
-        wider =
-            kept_wider g (Spare g base (base + n) NEW (LINK + 1)) (Entry (base + q) g.tags NEW) W Y p.kept
-            (λ r c e i. (omega (arith, i.0), omega (arith, i.0), i.1, omega (arith, i.2), omega (arith, i.2)))
+  -- it joins a name that is alike
+  pub place-hit : (Y : List ℕ) (old : ℕ) → Naming g W base q old → Key g W base n first old q → Put g W Y (base + q) g.tags NEW old → Placed g W Y base n first (q + 1)
+  place-hit Y old f alike p =
+      parted-next g W base n first q hq s Y wider news (omega (arith, p.here, f.below))
+      (ap (new_of g Y base) p.here ∙ news old f.below ∙ f.name ∙ sym p.here)
+      (ap (class_of g W base) p.here ∙ f.same) (subst (λ (i : ℕ). Key g W base n first i q) (sym p.here) alike)
+      (λ named. absurd (never named)) (λ o h name. by o name (below_suc o q (omega arith)))
+    where
+      wider : Kept g W Y (Spare g base (base + n) NEW (LINK + 1))
+      wider =
+          kept_wider g (Spare g base (base + n) NEW (LINK + 1)) (Entry (base + q) g.tags NEW) W Y p.kept
+          (λ r c e i. (omega (arith, i.0), omega (arith, i.0), i.1, omega (arith, i.2), omega (arith, i.2)))
 
-        news : (o : ℕ) → o < q → new_of g Y base o ≡ new_of g W base o
-        news o h = p.kept.same (base + o) g.tags NEW (omega arith) (omega (arith, deep)) (λ i. omega (arith, i.0))
+      news : (o : ℕ) → o < q → new_of g Y base o ≡ new_of g W base o
+      news o h = p.kept.same (base + o) g.tags NEW (omega arith) (omega (arith, deep)) (λ i. omega (arith, i.0))
 
-        never : Name g Y base q → ⊥
-        never named = omega (arith, named, p.here, f.below)
+      never : Name g Y base q → ⊥
+      never named = omega (arith, named, p.here, f.below)
 
-        by : (o : ℕ) → Name g Y base o → (o < q) ⊎ (o ≡ q) → ((link_of g Y base o ≡ 0) × Gap g Y base o (q + 1)) ⊎ Follows g Y base o (q + 1)
-        by o name (inl h) =
-            link_on g W base n first q hq s Y wider news o h name
-            (p.kept.same (base + o) g.tags LINK (omega arith) (omega (arith, deep)) (λ i. omega (arith, i.2))) (λ gap here e. never here)
-        by o name (inr e) = absurd (never (subst (λ (i : ℕ). Name g Y base i) e name))
+      by : (o : ℕ) → Name g Y base o → (o < q) ⊎ (o ≡ q) → ((link_of g Y base o ≡ 0) × Gap g Y base o (q + 1)) ⊎ Follows g Y base o (q + 1)
+      by o name (inl h) =
+          link_on g W base n first q hq s Y wider news o h name
+          (p.kept.same (base + o) g.tags LINK (omega arith) (omega (arith, deep)) (λ i. omega (arith, i.2))) (λ gap here e. never here)
+      by o name (inr e) = absurd (never (subst (λ (i : ℕ). Name g Y base i) e name))
 
-    -- it is told from all names of its class, and follows the last one
-    pub place-miss : (X Y : List ℕ) → w.hit ≡ false → Put g W X (base + w.at) g.tags LINK q → NewName g X Y base q → Placed g W Y base n first (q + 1)
-    place-miss X Y miss p nm =
-        parted-next g W base n first q hq s Y wider news (omega (arith, nm.name)) (ap (new_of g Y base) nm.name)
-        (ap (class_of g W base) nm.name) (subst (λ (i : ℕ). Key g W base n first i q) (sym nm.name) (key_refl g W base n first q))
-        (λ named. (f.miss miss).1) (λ o h name. by o name (below_suc o q (omega arith)))
-      where
-        wider : Kept g W Y (Spare g base (base + n) NEW (LINK + 1))
-        wider =
-            kept_then g (Spare g base (base + n) NEW (LINK + 1)) W X Y
-            (kept_wider g (Spare g base (base + n) NEW (LINK + 1)) (Entry (base + w.at) g.tags LINK) W X p.kept
-            (λ r c e i. (omega (arith, i.0), omega (arith, i.0, f.below), i.1, omega (arith, i.2), omega (arith, i.2))))
-            (named_wider X Y nm)
+  -- it is told from all names of its class, and follows the last one
+  pub place-miss : (X Y : List ℕ) (last : ℕ) → Last g W base n first q last → Put g W X (base + last) g.tags LINK q → NewName g X Y base q → Placed g W Y base n first (q + 1)
+  place-miss X Y last f p nm =
+      parted-next g W base n first q hq s Y wider news (omega (arith, nm.name)) (ap (new_of g Y base) nm.name)
+      (ap (class_of g W base) nm.name) (subst (λ (i : ℕ). Key g W base n first i q) (sym nm.name) (key_refl g W base n first q))
+      (λ named. f.none) (λ o h name. by o name (below_suc o q (omega arith)))
+    where
+      wider : Kept g W Y (Spare g base (base + n) NEW (LINK + 1))
+      wider =
+          kept_then g (Spare g base (base + n) NEW (LINK + 1)) W X Y
+          (kept_wider g (Spare g base (base + n) NEW (LINK + 1)) (Entry (base + last) g.tags LINK) W X p.kept
+          (λ r c e i. (omega (arith, i.0), omega (arith, i.0, f.naming.below), i.1, omega (arith, i.2), omega (arith, i.2))))
+          (named_wider X Y nm)
 
-        news : (o : ℕ) → o < q → new_of g Y base o ≡ new_of g W base o
-        news o h =
-            other_row X Y nm o 2 h (omega arith)
-            ∙ p.kept.same (base + o) g.tags NEW (omega arith) (omega (arith, deep)) (λ i. omega (arith, i.2))
+      news : (o : ℕ) → o < q → new_of g Y base o ≡ new_of g W base o
+      news o h =
+          other_row X Y nm o 2 h (omega arith)
+          ∙ p.kept.same (base + o) g.tags NEW (omega arith) (omega (arith, deep)) (λ i. omega (arith, i.2))
 
-        back : (o i : ℕ) → class_of g Y base o ≡ class_of g Y base i → class_of g W base o ≡ class_of g W base i
-        back = class_back g W base n first q hq s Y wider news
+      back : (o i : ℕ) → class_of g Y base o ≡ class_of g Y base i → class_of g W base o ≡ class_of g W base i
+      back = class_back g W base n first q hq s Y wider news
 
-        -- the gap after the last name
-        last-gap : Gap g W base w.at q
-        last-gap = go (s.links w.at f.below f.name)
-          where
-            go : ((link_of g W base w.at ≡ 0) × Gap g W base w.at q) ⊎ Follows g W base w.at q → Gap g W base w.at q
-            go (inl l) = l.1
-            go (inr l) = absurd (omega (arith, l.above, (f.miss miss).0))
+      -- the gap after the last name
+      last-gap : Gap g W base last q
+      last-gap = go (s.links last f.naming.below f.naming.name)
+        where
+          go : ((link_of g W base last ≡ 0) × Gap g W base last q) ⊎ Follows g W base last q → Gap g W base last q
+          go (inl l) = l.1
+          go (inr l) = absurd (omega (arith, l.above, f.last))
 
-        link_at : link_of g Y base w.at ≡ q
-        link_at = other_row X Y nm w.at 3 f.below (omega arith) ∙ p.here
+      link_at : link_of g Y base last ≡ q
+      link_at = other_row X Y nm last 3 f.naming.below (omega arith) ∙ p.here
 
-        at_last : Follows g Y base w.at (q + 1)
-        at_last =
-            record {
-              above = omega (arith, link_at, f.below);
-              below = omega (arith, link_at);
-              name = subst (λ (i : ℕ). Name g Y base i) (sym link_at) nm.name;
-              same = ap (class_of g Y base) link_at ∙ class_on g W base n first q hq s Y wider news q w.at (sym f.same);
-              gap = subst (λ (i : ℕ). Gap g Y base w.at i) (sym link_at) (gap_on g W base n first q hq s Y wider news w.at q (omega arith) last-gap);
-            }
+      at_last : Follows g Y base last (q + 1)
+      at_last =
+          record {
+            above = omega (arith, link_at, f.naming.below);
+            below = omega (arith, link_at);
+            name = subst (λ (i : ℕ). Name g Y base i) (sym link_at) nm.name;
+            same = ap (class_of g Y base) link_at ∙ class_on g W base n first q hq s Y wider news q last (sym f.naming.same);
+            gap = subst (λ (i : ℕ). Gap g Y base last i) (sym link_at) (gap_on g W base n first q hq s Y wider news last q (omega arith) last-gap);
+          }
 
-        -- no other name of the class is the last one
-        not_last : (o : ℕ) → o < q → (o ≡ w.at → ⊥) → Name g W base o → Gap g W base o q → class_of g W base q ≡ class_of g W base o → ⊥
-        not_last o h ne name gap e = go (dec_lt o w.at)
-          where
-            go : Dec (o < w.at) → ⊥
-            go (yes lt) = gap w.at lt f.below f.name (f.same ∙ e)
-            go (no le) = last-gap o (omega (arith, ne, le)) h name (sym e ∙ sym f.same)
+      -- no other name of the class is the last one
+      not_last : (o : ℕ) → o < q → (o ≡ last → ⊥) → Name g W base o → Gap g W base o q → class_of g W base q ≡ class_of g W base o → ⊥
+      not_last o h ne name gap e = go (dec_lt o last)
+        where
+          go : Dec (o < last) → ⊥
+          go (yes lt) = gap last lt f.naming.below f.naming.name (f.naming.same ∙ e)
+          go (no le) = last-gap o (omega (arith, ne, le)) h name (sym e ∙ sym f.naming.same)
 
-        by : (o : ℕ) → Name g Y base o → (o < q) ⊎ (o ≡ q) → ((link_of g Y base o ≡ 0) × Gap g Y base o (q + 1)) ⊎ Follows g Y base o (q + 1)
-        by o name (inr e) = rw e (inl (nm.last, λ i lo hi a b. omega arith))
-        by o name (inl h) = at (ℕ_discrete o w.at)
-          where
-            at : Dec (o ≡ w.at) → ((link_of g Y base o ≡ 0) × Gap g Y base o (q + 1)) ⊎ Follows g Y base o (q + 1)
-            at (yes e) = rw e (inr at_last)
-            at (no ne) =
-                link_on g W base n first q hq s Y wider news o h name
-                (other_row X Y nm o 3 h (omega arith) ∙ p.kept.same (base + o) g.tags LINK (omega arith) (omega (arith, deep)) (λ i. ne (omega (arith, i.0))))
-                (λ gap here e. not_last o h ne (name_back g W base n first q hq s Y wider news o h name) gap (back q o e))
+      by : (o : ℕ) → Name g Y base o → (o < q) ⊎ (o ≡ q) → ((link_of g Y base o ≡ 0) × Gap g Y base o (q + 1)) ⊎ Follows g Y base o (q + 1)
+      by o name (inr e) = rw e (inl (nm.last, λ i lo hi a b. omega arith))
+      by o name (inl h) = at (ℕ_discrete o last)
+        where
+          at : Dec (o ≡ last) → ((link_of g Y base o ≡ 0) × Gap g Y base o (q + 1)) ⊎ Follows g Y base o (q + 1)
+          at (yes e) = rw e (inr at_last)
+          at (no ne) =
+              link_on g W base n first q hq s Y wider news o h name
+              (other_row X Y nm o 3 h (omega arith) ∙ p.kept.same (base + o) g.tags LINK (omega arith) (omega (arith, deep)) (λ i. ne (omega (arith, i.0))))
+              (λ gap here e. not_last o h ne (name_back g W base n first q hq s Y wider news o h name) gap (back q o e))
 
 pub parted-start : (g : Grid) (W : List ℕ) (base n : ℕ) (first : Bool) → Partition g W base n → Placed g W W base n first 0
 parted-start g W base n first s =

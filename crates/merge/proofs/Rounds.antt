@@ -19,14 +19,18 @@ use Rattle.workspace.specs.Entries.{CLASS, NEW, LINK}
 use Rattle.workspace.specs.Cells.{Kept, Spare, Put, Got}
 use Rattle.workspace.specs.Holds.{Ready, table_at, standing}
 use Rattle.workspace.proofs.Regions.{kept-none, kept_then, kept_wider, spare_put}
-use Rattle.workspace.proofs.Words.{tabulate-same}
 use Rattle.workspace.proofs.Holds.{length_at}
 use Rattle.workspace.proofs.Views.{in_table, next_below, same-table, ready-kept}
 use Rattle.workspace.proofs.Falls.{total_falls}
-use Rattle.merge.specs.Classes.{class_of, new_of, Words, Nexts, Key, Partition, Parted, Placed, Differs, Taken, Round, Merged}
+use Rattle.merge.specs.Classes.{class_of, new_of, Words, Nexts, Key, Partition, Parted, Placed, Taken, Round, Merged}
 use Rattle.merge.proofs.Keys.{words_sym, words_trans, key_sym, key_trans, class_same, key_back}
 
 -- ---- the new classes are taken over
+
+-- something had changed, or two names differ
+pub record Differs (changed : Bool) (c d : ℕ) (r : Bool) : Type 0 where
+  pub up : r ≡ true → (changed ≡ true) ⊎ (c ≡ d → ⊥)
+  pub down : r ≡ false → (changed ≡ false) × (c ≡ d)
 
 module _ (g : Grid) (W : List ℕ) (base n : ℕ) (ok : Ready g W base n) where
   deep : 8 ≤ g.depth
@@ -160,10 +164,6 @@ Still g W base n = (q : ℕ) → q < n → Nexts g W base n (class_of g W base q
 abbrev pub weight : Grid → List ℕ → ℕ → ℕ → ℕ
 weight g W base n = total (tabulate n 0 (λ q. n - class_of g W base q))
 
-abbrev pub flag : Bool → ℕ
-flag true = 1
-flag false = 0
-
 module _ (g : Grid) (W X : List ℕ) (base n : ℕ) (s : Partition g W base n) where
   round_table : (first changed : Bool) → Round g W X base n first changed → table_at g X base n ≡ table_at g W base n
   round_table first changed r = same-table g W base n s.ready X 1 4 (omega arith) r.kept
@@ -190,17 +190,11 @@ module _ (g : Grid) (W X : List ℕ) (base n : ℕ) (s : Partition g W base n) w
       ∙ r.alike q h a ha
       ∙ sym (r.rests e ((standing g W base n).next q a) (next_below g W base n s.ready q a h ha)))
 
-  pub round_falls : (first changed : Bool) → Round g W X base n first changed → weight g X base n + flag changed < weight g W base n + 1
-  round_falls first true r =
-      let m = r.moved refl in
-      let f : weight g X base n < weight g W base n =
+  pub round_falls : (first changed : Bool) → Round g W X base n first changed → changed ≡ true → weight g X base n < weight g W base n
+  round_falls first changed r e =
+      let m = r.moved e in
       total_falls n (λ q. n - class_of g X base q) (λ q. n - class_of g W base q) (λ i h. omega (arith, r.grows i h)) m.0 m.1
-      (omega (arith, r.grows m.0 m.1, m.2, r.part.low m.0 m.1, m.1)) in
-      omega (arith, f)
-  round_falls first false r =
-      let e : weight g X base n ≡ weight g W base n =
-      ap total (tabulate-same n 0 (λ q. n - class_of g X base q) (λ q. n - class_of g W base q) (λ q lo hi. ap (λ (c : ℕ). n - c) (r.rests refl q (omega arith)))) in
-      omega (arith, e)
+      (omega (arith, r.grows m.0 m.1, m.2, r.part.low m.0 m.1, m.1))
 
 -- classes that rest are those of the definition
 pub merged_done : (g : Grid) (W X : List ℕ) (base n : ℕ) → Ready g W base n → Kept g W X (Spare g base (base + n) CLASS (LINK + 1)) → Partition g X base n → Worded g X base n

@@ -1,5 +1,5 @@
 -- The classes of the states: entries of their rows' last cells.
-use Rattle.std.specs.Prelude.{ℕ, ◌+◌, ◌≤◌, ◌<◌, ◌≡◌, ◌⊎◌, Bool, true, false, List}
+use Rattle.std.specs.Prelude.{ℕ, ◌+◌, ◌≤◌, ◌<◌, ◌≡◌, ◌⊎◌, Bool, true, false, List, Result, Ok, Err}
 use Rattle.transducers.specs.Transducer.{puts}
 use Rattle.transducers.specs.Canonical.{Same, Early}
 use Rattle.transducers.specs.Merge.{class, classes}
@@ -7,7 +7,6 @@ use Rattle.workspace.specs.declared.Grid.{Grid}
 use Rattle.workspace.specs.Entries.{CLASS, NEW, LINK}
 use Rattle.workspace.specs.Cells.{at, Kept, Spare}
 use Rattle.workspace.specs.Holds.{Ready, table_at, standing}
-use Rattle.merge.specs.declared.Walked.{Walked}
 
 -- the class so far, the new one, and the name that follows a name within its old class
 abbrev pub class_of : Grid → List ℕ → ℕ → ℕ → ℕ
@@ -66,13 +65,22 @@ pub record Parted (g : Grid) (W : List ℕ) (base n : ℕ) (first : Bool) (i : �
   pub apart : (p q : ℕ) → p < i → q < i → Name g W base p → Name g W base q → class_of g W base p ≡ class_of g W base q → Key g W base n first p q → p ≡ q
   pub links : (p : ℕ) → p < i → Name g W base p → ((link_of g W base p ≡ 0) × Gap g W base p i) ⊎ Follows g W base p i
 
+-- p is a name of q's class
+pub record Naming (g : Grid) (W : List ℕ) (base q p : ℕ) : Type 0 where
+  pub below : p < q
+  pub name : Name g W base p
+  pub same : class_of g W base p ≡ class_of g W base q
+
+-- no name of q's class is alike, and p is the last one
+pub record Last (g : Grid) (W : List ℕ) (base n : ℕ) (first : Bool) (q p : ℕ) : Type 0 where
+  pub naming : Naming g W base q p
+  pub last : link_of g W base p ≡ 0
+  pub none : (o : ℕ) → o < q → Name g W base o → class_of g W base o ≡ class_of g W base q → Key g W base n first o q → ⊥
+
 -- a name of q's class that is alike, or the last one where none is
-pub record Found (g : Grid) (W : List ℕ) (base n : ℕ) (first : Bool) (q : ℕ) (w : Walked) : Type 0 where
-  pub below : w.at < q
-  pub name : Name g W base w.at
-  pub same : class_of g W base w.at ≡ class_of g W base q
-  pub hit : w.hit ≡ true → Key g W base n first w.at q
-  pub miss : w.hit ≡ false → (link_of g W base w.at ≡ 0) × ((o : ℕ) → o < q → Name g W base o → class_of g W base o ≡ class_of g W base q → Key g W base n first o q → ⊥)
+abbrev pub Found : Grid → List ℕ → ℕ → ℕ → Bool → ℕ → Result ℕ ℕ → Type 0
+Found g W base n first q (Ok p) = Naming g W base q p × Key g W base n first p q
+Found g W base n first q (Err p) = Last g W base n first q p
 
 -- one state more
 pub record Placed (g : Grid) (W X : List ℕ) (base n : ℕ) (first : Bool) (i : ℕ) : Type 0 where
@@ -97,10 +105,6 @@ pub record NewName (g : Grid) (W X : List ℕ) (base q : ℕ) : Type 0 where
   pub kept : Kept g W X (Spare g (base + q) (base + q + 1) NEW (LINK + 1))
   pub name : new_of g X base q ≡ q
   pub last : link_of g X base q ≡ 0
-
-pub record Differs (changed : Bool) (c d : ℕ) (r : Bool) : Type 0 where
-  pub up : r ≡ true → (changed ≡ true) ⊎ (c ≡ d → ⊥)
-  pub down : r ≡ false → (changed ≡ false) × (c ≡ d)
 
 -- a round: the classes are split, or rest
 pub record Round (g : Grid) (W X : List ℕ) (base n : ℕ) (first changed : Bool) : Type 0 where

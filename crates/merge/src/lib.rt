@@ -9,228 +9,206 @@ ghost use Rattle.words.specs.Decides.{Decides};
 ghost use Rattle.workspace.specs.Holds.{Ready, standing};
 ghost use Rattle.transducers.specs.Canonical.{Early};
 ghost use Rattle.merge.specs.Seats.{digest, Seating, Seated};
-ghost use Rattle.merge.specs.Classes.{class_of, Nexts, Key, Partition, Parted, Found, Placed, NewName, Differs, Taken, Round, Merged};
+ghost use Rattle.merge.specs.Classes.{class_of, Nexts, Key, Partition, Parted, Found, Placed, NewName, Taken, Round, Merged};
 
 use workspace::{
-    CLASS, FINAL, Grid, HEAD, LINK, NEW, NEXT, OUTPUT, clear_notes, get, put, same_words,
+    CLASS, FINAL, HEAD, LINK, NEW, NEXT, OUTPUT, Part, clear_notes, get, put, same_words,
 };
 
-#[derive(Clone, Copy)]
-pub struct Walked {
-    pub at: usize,
-    pub hit: bool,
-}
-
-fn same_outputs(work: &[u16], g: Grid, base: usize, n: usize, p: usize, q: usize) -> bool
-    requires ready { Ready g work.now base n }
-    requires p_lt_n { (p < n) × (q < n) }
-    ensures { Decides result ((a : ℕ) → a < g.tags → (standing g work.now base n).output p a ≡ (standing g work.now base n).output q a) }
+fn same_outputs(work: &[u16], part: Part, p: usize, q: usize) -> bool
+    requires ready { Ready part.grid work.now part.base part.states }
+    requires p_lt_n { (p < part.states) × (q < part.states) }
+    ensures { Decides result ((a : ℕ) → a < part.grid.tags → (standing part.grid work.now part.base part.states).output p a ≡ (standing part.grid work.now part.base part.states).output q a) }
 {
-    let tags = g.tags;
-    let mut a = 0;
-    while a < tags {
-        if !same_words(work, g, base + p, a, OUTPUT, base + q, a, OUTPUT) {
+    let Part { grid, base, .. } = part;
+    for a in 0..grid.tags {
+        if !same_words(work, grid, base + p, a, OUTPUT, base + q, a, OUTPUT) {
             return false;
         }
-        a += 1;
     }
     true
 }
 
-fn same_nexts(work: &[u16], g: Grid, base: usize, n: usize, p: usize, q: usize) -> bool
-    requires ready { Ready g work.now base n }
-    requires p_lt_n { (p < n) × (q < n) }
-    ensures { Decides result (Nexts g work.now base n p q) }
+fn same_nexts(work: &[u16], part: Part, p: usize, q: usize) -> bool
+    requires ready { Ready part.grid work.now part.base part.states }
+    requires p_lt_n { (p < part.states) × (q < part.states) }
+    ensures { Decides result (Nexts part.grid work.now part.base part.states p q) }
 {
-    let tags = g.tags;
-    let mut a = 0;
-    while a < tags {
-        let p2 = get(work, g, base + p, a, NEXT);
-        let q2 = get(work, g, base + q, a, NEXT);
-        if get(work, g, base + p2, g.tags, CLASS) != get(work, g, base + q2, g.tags, CLASS) {
+    let Part { grid, base, .. } = part;
+    for a in 0..grid.tags {
+        let p2 = get(work, grid, base + p, a, NEXT);
+        let q2 = get(work, grid, base + q, a, NEXT);
+        if get(work, grid, base + p2, grid.tags, CLASS)
+            != get(work, grid, base + q2, grid.tags, CLASS)
+        {
             return false;
         }
-        a += 1;
     }
     true
 }
 
 // Whether p and q are alike: at first by the words that they put out, then by the classes of their next states.
-fn alike(work: &[u16], g: Grid, base: usize, n: usize, p: usize, q: usize, first: bool) -> bool
-    requires ready { Ready g work.now base n }
-    requires p_lt_n { (p < n) × (q < n) }
-    ensures { Decides result (Key g work.now base n first p q) }
+fn alike(work: &[u16], part: Part, p: usize, q: usize, first: bool) -> bool
+    requires ready { Ready part.grid work.now part.base part.states }
+    requires p_lt_n { (p < part.states) × (q < part.states) }
+    ensures { Decides result (Key part.grid work.now part.base part.states first p q) }
 {
+    let Part { grid, base, .. } = part;
     if !first {
-        return same_nexts(work, g, base, n, p, q);
+        return same_nexts(work, part, p, q);
     }
-    if !same_words(work, g, base + p, g.tags, FINAL, base + q, g.tags, FINAL) {
+    if !same_words(
+        work,
+        grid,
+        base + p,
+        grid.tags,
+        FINAL,
+        base + q,
+        grid.tags,
+        FINAL,
+    ) {
         return false;
     }
-    same_outputs(work, g, base, n, p, q)
+    same_outputs(work, part, p, q)
 }
 
-// The names within the class of q, from the least on, as far as one that is alike.
-fn find_name(
-    work: &[u16],
-    g: Grid,
-    base: usize,
-    n: usize,
-    q: usize,
-    c: usize,
-    first: bool,
-) -> Walked
-    requires parted { Parted g work.now base n first q }
-    requires q_lt_n { (q < n) × (c < q) × (c ≡ class_of g work.now base q) }
-    ensures { Found g work.now base n first q result }
+// A name within the class of q, the least that is alike; where none is, the last one is the error.
+fn find_name(work: &[u16], part: Part, q: usize, c: usize, first: bool) -> Result<usize, usize>
+    requires parted { Parted part.grid work.now part.base part.states first q }
+    requires q_lt_n { (q < part.states) × (c < q) × (c ≡ class_of part.grid work.now part.base q) }
+    ensures { Found part.grid work.now part.base part.states first q result }
 {
     let mut p = c;
-    while !alike(work, g, base, n, p, q, first) {
-        let next = get(work, g, base + p, g.tags, LINK);
+    while !alike(work, part, p, q, first) {
+        let next = get(work, part.grid, part.base + p, part.grid.tags, LINK);
         if next == 0 {
-            return Walked { at: p, hit: false };
+            return Err(p);
         }
         p = next;
     }
-    Walked { at: p, hit: true }
+    Ok(p)
 }
 
-fn name_new(work: &mut [u16], g: Grid, base: usize, n: usize, q: usize)
-    requires ready { Ready g work.old base n }
-    requires q_lt_n { q < n }
-    ensures { NewName g work.old work.new base q }
+fn name_new(work: &mut [u16], part: Part, q: usize)
+    requires ready { Ready part.grid work.old part.base part.states }
+    requires q_lt_n { q < part.states }
+    ensures { NewName part.grid work.old work.new part.base q }
 {
-    put(work, g, base + q, g.tags, NEW, q);
-    put(work, g, base + q, g.tags, LINK, 0);
+    let Part { grid, base, .. } = part;
+    put(work, grid, base + q, grid.tags, NEW, q);
+    put(work, grid, base + q, grid.tags, LINK, 0);
 }
 
 // The new class of q.
-fn place(work: &mut [u16], g: Grid, base: usize, n: usize, q: usize, first: bool)
-    requires parted { Parted g work.old base n first q }
-    requires q_lt_n { q < n }
-    ensures { Placed g work.old work.new base n first (q + 1) }
+fn place(work: &mut [u16], part: Part, q: usize, first: bool)
+    requires parted { Parted part.grid work.old part.base part.states first q }
+    requires q_lt_n { q < part.states }
+    ensures { Placed part.grid work.old work.new part.base part.states first (q + 1) }
 {
-    let c = get(work, g, base + q, g.tags, CLASS);
+    let Part { grid, base, .. } = part;
+    let c = get(work, grid, base + q, grid.tags, CLASS);
     if c == q {
-        name_new(work, g, base, n, q);
+        name_new(work, part, q);
         return;
     }
-    let w = find_name(work, g, base, n, q, c, first);
-    let at = w.at;
-    if w.hit {
-        put(work, g, base + q, g.tags, NEW, at);
-        return;
-    }
-    put(work, g, base + at, g.tags, LINK, q);
-    name_new(work, g, base, n, q);
-}
-
-fn split(work: &mut [u16], g: Grid, base: usize, n: usize, first: bool)
-    requires { Partition g work.old base n }
-    ensures { Placed g work.old work.new base n first n }
-{
-    let mut q = 0;
-    while q < n {
-        place(work, g, base, n, q, first);
-        q += 1;
+    match find_name(work, part, q, c, first) {
+        Ok(name) => put(work, grid, base + q, grid.tags, NEW, name),
+        Err(last) => {
+            put(work, grid, base + last, grid.tags, LINK, q);
+            name_new(work, part, q);
+        }
     }
 }
 
-fn differs(changed: bool, c: usize, d: usize) -> bool
-    ensures { Differs changed c d result }
+fn split(work: &mut [u16], part: Part, first: bool)
+    requires { Partition part.grid work.old part.base part.states }
+    ensures { Placed part.grid work.old work.new part.base part.states first part.states }
 {
-    if c != d {
-        return true;
+    for q in 0..part.states {
+        place(work, part, q, first);
     }
-    changed
 }
 
-fn take_over(work: &mut [u16], g: Grid, base: usize, n: usize) -> bool
-    requires { Ready g work.old base n }
-    ensures { Taken g work.old work.new base n n result }
+fn take_over(work: &mut [u16], part: Part) -> bool
+    requires { Ready part.grid work.old part.base part.states }
+    ensures { Taken part.grid work.old work.new part.base part.states part.states result }
 {
+    let Part { grid, base, .. } = part;
     let mut changed = false;
-    let mut q = 0;
-    while q < n {
-        let c = get(work, g, base + q, g.tags, CLASS);
-        let d = get(work, g, base + q, g.tags, NEW);
-        put(work, g, base + q, g.tags, CLASS, d);
-        changed = differs(changed, d, c);
-        q += 1;
+    for q in 0..part.states {
+        let c = get(work, grid, base + q, grid.tags, CLASS);
+        let d = get(work, grid, base + q, grid.tags, NEW);
+        put(work, grid, base + q, grid.tags, CLASS, d);
+        changed |= d != c;
     }
     changed
 }
 
-fn round(work: &mut [u16], g: Grid, base: usize, n: usize, first: bool) -> bool
-    requires { Partition g work.old base n }
-    ensures { Round g work.old work.new base n first result }
+fn round(work: &mut [u16], part: Part, first: bool) -> bool
+    requires { Partition part.grid work.old part.base part.states }
+    ensures { Round part.grid work.old work.new part.base part.states first result }
 {
-    split(work, g, base, n, first);
-    take_over(work, g, base, n)
+    split(work, part, first);
+    take_over(work, part)
 }
 
 // A number made of the lengths of q's words.
-fn digest_of(work: &[u16], g: Grid, base: usize, n: usize, q: usize) -> usize
-    requires ready { Ready g work.now base n }
-    requires q_lt_n { q < n }
-    ensures { result ≡ digest g work.now base q }
+fn digest_of(work: &[u16], part: Part, q: usize) -> usize
+    requires ready { Ready part.grid work.now part.base part.states }
+    requires q_lt_n { q < part.states }
+    ensures { result ≡ digest part.grid work.now part.base q }
 {
-    let tags = g.tags;
-    let mut h = get(work, g, base + q, tags, FINAL);
-    let mut a = 0;
-    while a < tags {
-        h = (h * 31 + get(work, g, base + q, a, OUTPUT)) % 0x10000;
-        a += 1;
+    let Part { grid, base, .. } = part;
+    let tags = grid.tags;
+    let mut h = get(work, grid, base + q, tags, FINAL);
+    for a in 0..tags {
+        h = (h * 31 + get(work, grid, base + q, a, OUTPUT)) % 0x10000;
     }
     h
 }
 
 // The class of q: the first state of its bucket.
-fn seat(work: &mut [u16], g: Grid, base: usize, n: usize, q: usize)
-    requires seating { Seating g work.old base n q }
-    requires q_lt_n { q < n }
-    ensures { Seated g work.old work.new base n (q + 1) }
+fn seat(work: &mut [u16], part: Part, q: usize)
+    requires seating { Seating part.grid work.old part.base part.states q }
+    requires q_lt_n { q < part.states }
+    ensures { Seated part.grid work.old work.new part.base part.states (q + 1) }
 {
-    let b = digest_of(work, g, base, n, q) % n;
-    let head = get(work, g, base + b, g.tags, HEAD);
+    let Part { grid, base, .. } = part;
+    let b = digest_of(work, part, q) % part.states;
+    let head = get(work, grid, base + b, grid.tags, HEAD);
     if head != 0 {
-        put(work, g, base + q, g.tags, CLASS, head - 1);
+        put(work, grid, base + q, grid.tags, CLASS, head - 1);
         return;
     }
-    put(work, g, base + b, g.tags, HEAD, q + 1);
-    put(work, g, base + q, g.tags, CLASS, q);
+    put(work, grid, base + b, grid.tags, HEAD, q + 1);
+    put(work, grid, base + q, grid.tags, CLASS, q);
 }
 
-fn seat_all(work: &mut [u16], g: Grid, base: usize, n: usize)
-    requires { Seating g work.old base n 0 }
-    ensures { Seated g work.old work.new base n n }
+fn seat_all(work: &mut [u16], part: Part)
+    requires { Seating part.grid work.old part.base part.states 0 }
+    ensures { Seated part.grid work.old work.new part.base part.states part.states }
 {
-    let mut q = 0;
-    while q < n {
-        seat(work, g, base, n, q);
-        q += 1;
+    for q in 0..part.states {
+        seat(work, part, q);
     }
 }
 
 // Classes to begin with.
-fn start_classes(work: &mut [u16], g: Grid, base: usize, n: usize)
-    requires { Ready g work.old base n }
-    ensures { Seated g work.old work.new base n n }
+fn start_classes(work: &mut [u16], part: Part)
+    requires { Ready part.grid work.old part.base part.states }
+    ensures { Seated part.grid work.old work.new part.base part.states part.states }
 {
-    clear_notes(work, g, base, n, HEAD);
-    seat_all(work, g, base, n);
+    clear_notes(work, part.grid, part.base, part.states, HEAD);
+    seat_all(work, part);
 }
 
-// The classes of the n states in the rows from `base`, each noted in its row.
-pub fn merge(work: &mut [u16], g: Grid, base: usize, n: usize)
-    requires ready { Ready g work.old base n }
-    requires early { Early g.tags (standing g work.old base n) }
-    ensures { Merged g work.old work.new base n }
+// The classes of the part's states, each noted in its row.
+pub fn merge(work: &mut [u16], part: Part)
+    requires ready { Ready part.grid work.old part.base part.states }
+    requires early { Early part.grid.tags (standing part.grid work.old part.base part.states) }
+    ensures { Merged part.grid work.old work.new part.base part.states }
 {
-    start_classes(work, g, base, n);
-    round(work, g, base, n, true);
-    let mut going = true;
-    while going {
-        going = round(work, g, base, n, false);
-    }
+    start_classes(work, part);
+    round(work, part, true);
+    while round(work, part, false) {}
 }

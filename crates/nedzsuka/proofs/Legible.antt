@@ -21,7 +21,9 @@ use Rattle.cascades.specs.Rewrite.{behavior}
 use Rattle.books.specs.Read.{read}
 use Rattle.books.specs.Ending.{fitted, read_ending}
 use Rattle.books.specs.Answer.{Sizes, sizes, book_outcome}
-use Rattle.books.specs.declared.BookAnswer.{BookAnswer}
+use Rattle.std.specs.Prelude.{Result}
+use Rattle.answers.specs.declared.Refusal.{Refusal}
+use Rattle.books.specs.declared.Book.{Book}
 use Rattle.books.proofs.Refusal.{BookRefusal, book_refusal}
 use Rattle.books.proofs.Encode.{reads_exactly}
 use Rattle.tagging.specs.Run.{book_run}
@@ -34,7 +36,7 @@ use Rattle.tables.specs.Run.{Size, size_of, table_run}
 use Rattle.tables.proofs.Theorem.{decoded}
 use Rattle.tables.proofs.Outcomes.{Read, gave, refuses, read-decode, valid-length}
 use Rattle.decoder.specs.Answer.{table_outcome}
-use Rattle.decoder.specs.declared.TableAnswer.{TableAnswer}
+use Rattle.steps.specs.declared.Size as steps
 use Rattle.loaded.specs.Numbers.{numbers}
 use Rattle.loaded.specs.Run.{way, sound, loaded_run, load_answer}
 use Rattle.loaded.proofs.Refusal.{way-read}
@@ -145,7 +147,7 @@ legible_read_book book = by (read standard book) refl (book_refusal standard boo
     by (refused j (byte i)) e n = (n.0.0, omega (arith, n.0.1), omega (arith, n.1 standard_range))
     by (refused j (rule i)) e n = absurd n
 
-pub legible_book_answer : (book : List ℕ) (r : BookAnswer) → book_outcome r ≡ sizes (read standard book) → LegibleByte (book_size (book_outcome r))
+pub legible_book_answer : (book : List ℕ) (r : Result Book Refusal) → book_outcome r ≡ sizes (read standard book) → LegibleByte (book_size (book_outcome r))
 legible_book_answer book r e = subst (λ (o : Outcome Sizes). LegibleByte (book_size o)) (sym e) (legible_read_book book)
 
 module _ (table : List ℕ) (bytes : Below 0x100 table) where
@@ -161,7 +163,7 @@ module _ (table : List ℕ) (bytes : Below 0x100 table) where
           subst (λ (x : Outcome Decoded). Legible (after x)) (sym e) (omega (arith, v.tags_most, v.states_most))
       by (refuses e) = subst (λ (x : Outcome Decoded). Legible (after x)) (sym e) malformed-told
 
-  pub legible_table_answer : (r : TableAnswer) → table_outcome r ≡ size_of standard table → Legible (table_size (table_outcome r))
+  pub legible_table_answer : (r : Result steps.Size Refusal) → table_outcome r ≡ size_of standard table → Legible (table_size (table_outcome r))
   legible_table_answer r e = subst (λ (o : Outcome Size). Legible (table_size o)) (sym e) legible_read_table
 
   pub legible_load : (room : ℕ) → Legible (long_of (load_answer standard table room))

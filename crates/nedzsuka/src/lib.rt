@@ -24,7 +24,7 @@ ghost use Rattle.handing.specs.Typing.{sentence_of, opened_as, opened_on, TypeCa
 
 use handing::{hand_on, hand_opened, sentence_of};
 use limits::{STANDARD, limits_of};
-use packing::{pack_compile, pack_run, pack_written};
+use packing::pack_answer;
 use sizing::{pack_book, pack_table};
 use typing::Sentence;
 use verdicts::pack_check;
@@ -43,7 +43,7 @@ pub extern "C" fn nedzsuka_compile_ending(
     ensures work { work.new ≡ worked standard ceiling (tested standard book.now end ceiling (length work.old)) work.old }
 {
     let answer = compiler::compile_ending(book, end, ceiling as usize, work, out, STANDARD);
-    pack_compile(answer)
+    pack_answer(answer)
 }
 
 // compiler::compile: the same with no end tag.
@@ -79,7 +79,7 @@ pub extern "C" fn nedzsuka_compile_within(
 {
     let lim = limits_of(pattern, rules, tags);
     let answer = compiler::compile_ending(book, end, ceiling as usize, work, out, lim);
-    pack_compile(answer)
+    pack_answer(answer)
 }
 
 // checker::check_table: 0 for yes, the sentence's length for no, or the refusal.
@@ -105,7 +105,7 @@ pub extern "C" fn nedzsuka_starter_table(out: &mut [u8]) -> u64
     ensures out { out.new ≡ written (starter_answer (length out.old)) out.old }
 {
     let answer = starter::write_table(out);
-    pack_compile(answer)
+    pack_answer(answer)
 }
 
 // tagger::run_book_standard: the number of changed tags, or the refusal.
@@ -120,7 +120,7 @@ pub extern "C" fn nedzsuka_run_book_ending(
     ensures out { out.new ≡ written (book_run standard book.now end sentence.now (length out.old)) out.old }
 {
     let answer = tagger::run_book_standard(book, end, sentence, out);
-    pack_run(answer)
+    pack_answer(answer)
 }
 
 // tagger::run_book_rules: the same, and the number of the rule that rewrote each tag.
@@ -137,7 +137,7 @@ pub extern "C" fn nedzsuka_run_book_rules(
     ensures rules { rules.new ≡ written (book_numbers standard book.now end sentence.now (min (length out.old) (length rules.old))) rules.old }
 {
     let answer = tagger::run_book_rules(book, end, sentence, out, rules, STANDARD);
-    pack_run(answer)
+    pack_answer(answer)
 }
 
 // tagger::run_book: the number of changed tags with no end tag, or the refusal.
@@ -147,7 +147,7 @@ pub extern "C" fn nedzsuka_run_book(book: &[u8], sentence: &[u8], out: &mut [u8]
     ensures out { out.new ≡ written (book_run standard book.now no_end sentence.now (length out.old)) out.old }
 {
     let answer = tagger::run_book(book, sentence, out, STANDARD);
-    pack_run(answer)
+    pack_answer(answer)
 }
 
 // tagger::run_book_ending: the same with a host's limits.
@@ -166,7 +166,7 @@ pub extern "C" fn nedzsuka_run_book_within(
 {
     let lim = limits_of(pattern, rules, tags);
     let answer = tagger::run_book_ending(book, end, sentence, out, lim);
-    pack_run(answer)
+    pack_answer(answer)
 }
 
 // transduction::run_table: the number of changed tags, or the refusal.
@@ -176,7 +176,7 @@ pub extern "C" fn nedzsuka_run_table(table: &[u8], sentence: &[u8], out: &mut [u
     ensures out { out.new ≡ written (table_run standard table.now sentence.now (length out.old)) out.old }
 {
     let answer = transduction::run_table(table, sentence, out, STANDARD);
-    pack_run(answer)
+    pack_answer(answer)
 }
 
 // The same with a host's limits.
@@ -194,7 +194,7 @@ pub extern "C" fn nedzsuka_run_table_within(
 {
     let lim = limits_of(pattern, rules, tags);
     let answer = transduction::run_table(table, sentence, out, lim);
-    pack_run(answer)
+    pack_answer(answer)
 }
 
 // loader::load_table: how many numbers were written, or the refusal.
@@ -204,7 +204,7 @@ pub extern "C" fn nedzsuka_load_table(table: &[u8], loaded: &mut [u32]) -> u64
     ensures loaded { loaded.new ≡ written (load_answer standard table.now (length loaded.old)) loaded.old }
 {
     let answer = loader::load_table(table, loaded, STANDARD);
-    pack_written(answer)
+    pack_answer(answer)
 }
 
 // walker::run_loaded: the number of changed tags, or the refusal.
@@ -214,7 +214,7 @@ pub extern "C" fn nedzsuka_run_loaded(loaded: &[u32], sentence: &[u8], out: &mut
     ensures out { out.new ≡ written (loaded_run standard loaded.now sentence.now (length out.old)) out.old }
 {
     let answer = walker::run_loaded(loaded, sentence, out, STANDARD);
-    pack_run(answer)
+    pack_answer(answer)
 }
 
 // reader::read_book: K × 256 + the number of rules, or the refusal with its byte.
@@ -279,7 +279,7 @@ pub extern "C" fn nedzsuka_look(
     let sentence = sentence_of(state, given, closed);
     let typed = sentence.look(table, out, STANDARD);
     let answer = typed.answer;
-    pack_written(answer)
+    pack_answer(answer)
 }
 
 // Sentence::close: the number of tags put out, or the refusal.

@@ -4,7 +4,8 @@ use native.Mathlib.Omega.{arith}
 use native.Mathlib.Decide.{ℕ_discrete}
 use mathlib.Core.Path.{◌≡◌, refl, sym, ap, ap₂, ◌∙◌, subst}
 use mathlib.Core.Logic.{◌⊎◌, inl, inr}
-use mathlib.Core.Bool.{Bool, true, false}
+use mathlib.Core.Bool.{Bool, true, false, ◌||◌}
+use Rattle.std.proofs.lemmas.Bool.{or_cases, or_parts}
 use mathlib.Core.List.{List, [], ◌++◌}
 use lib.ListN.{length, get_or, take, drop}
 use lib.Seq.{length-take-le, take-length}
@@ -25,7 +26,7 @@ use Rattle.workspace.specs.Cells.{at, word, Kept, Entry, Spare, Put, Got}
 use Rattle.workspace.specs.Holds.{Ready, standing}
 use Rattle.workspace.proofs.Regions.{kept-none, kept_then, kept_wider}
 use Rattle.workspace.proofs.Holds.{length_at}
-use Rattle.normalize.specs.Fronts.{front_size, front_at, Fronted, Rests, Lowered, Lesser, Turn, Either, Started}
+use Rattle.normalize.specs.Fronts.{front_size, front_at, Fronted, Rests, Lowered, Lesser, Turn, Started}
 use Rattle.normalize.proofs.Meets.{meet-short, meet-stops, meet-goes, prefix-take, take-prefix}
 use Rattle.workspace.proofs.Views.{final_is, final-size, output_is, output-size, next_is, next_below, same-table, ready-kept}
 
@@ -176,14 +177,14 @@ module _ (g : Grid) (base n : ℕ) where
         rests = λ e. (refl, λ i h. absurd (omega arith));
       }
 
-  pub turn_next : (W X Y : List ℕ) (P : ℕ → Type 0) (Q : Type 0) (i : ℕ) (a b r : Bool) → Turn g W X base n ((j : ℕ) → j < i → P j) a
-      → Turn g X Y base n Q b → (X ≡ W → Q → P i) → Either a b r → Turn g W Y base n ((j : ℕ) → j < i + 1 → P j) r
-  turn_next W X Y P Q i a b r s t on e =
+  pub turn_next : (W X Y : List ℕ) (P : ℕ → Type 0) (Q : Type 0) (i : ℕ) (a b : Bool) → Turn g W X base n ((j : ℕ) → j < i → P j) a
+      → Turn g X Y base n Q b → (X ≡ W → Q → P i) → Turn g W Y base n ((j : ℕ) → j < i + 1 → P j) (a || b)
+  turn_next W X Y P Q i a b s t on =
       record {
         lowered = lowered_then W X Y s.lowered t.lowered;
-        falls = λ d. fall (e.up d);
+        falls = λ d. fall (or_cases a b d);
         rests = λ d.
-            let down = e.down d in
+            let down = or_parts a b d in
             let first = s.rests down.0 in
             let second = t.rests down.1 in
             (second.0 ∙ first.0, λ j h. all first.1 (on first.0 second.1) j (below_suc j i (omega arith)));
@@ -197,16 +198,9 @@ module _ (g : Grid) (base n : ℕ) where
       all before here j (inl h) = before j h
       all before here j (inr d) = subst P (sym d) here
 
-  pub turn_is : (W X : List ℕ) (P Q : Type 0) (r : Bool) → (P → Q) → Turn g W X base n P r → Turn g W X base n Q r
-  turn_is W X P Q r f t = record { lowered = t.lowered; falls = t.falls; rests = λ e. ((t.rests e).0, f (t.rests e).1) }
-
   -- the sum of the fronts' lengths
   abbrev pub weight : List ℕ → ℕ
   weight W = total (tabulate n 0 (front_size g W base))
-
-  abbrev pub flag : Bool → ℕ
-  flag true = 1
-  flag false = 0
 
   sizes : (W : List ℕ) (q : ℕ) → q < n → get_or (tabulate n 0 (front_size g W base)) q 0 ≡ front_size g W base q
   sizes W q h = at-tabulate n q (front_size g W base) 0 h
@@ -230,10 +224,6 @@ module _ (g : Grid) (base n : ℕ) where
             l.less,
           ))
       go (no ne) = omega (arith, ne, total_le (tabulate n 0 (front_size g X base)) (tabulate n 0 (front_size g W base)) long le)
-
-  pub falls_on : (W X : List ℕ) (P : Type 0) (r : Bool) → Turn g W X base n P r → weight X + flag r < weight W + 1
-  falls_on W X P true t = omega (arith, weight_less W X t.lowered (t.falls refl))
-  falls_on W X P false t = let e = ap weight (t.rests refl).0 in omega (arith, e)
 
 -- the fronts that the work starts with: those of the states below q are set
 pub record Starting (g : Grid) (W X : List ℕ) (base n q : ℕ) : Type 0 where

@@ -1,5 +1,5 @@
 -- The fronts of the states: the first entry of a row's last cell is how much of its final word.
-use Rattle.std.specs.Prelude.{ℕ, ◌+◌, ◌≤◌, ◌<◌, ◌≡◌, ◌⊎◌, Bool, true, false, List, ◌++◌, length, take}
+use Rattle.std.specs.Prelude.{ℕ, ◌+◌, ◌≤◌, ◌<◌, ◌≡◌, Bool, true, false, List, ◌++◌, length, take}
 use Rattle.words.specs.Word.{Prefix}
 use Rattle.transducers.specs.Normalize.{Above}
 use Rattle.workspace.specs.declared.Grid.{Grid}
@@ -38,10 +38,6 @@ pub record Turn (g : Grid) (W X : List ℕ) (base n : ℕ) (P : Type 0) (fell : 
   pub lowered : Lowered g W X base n
   pub falls : fell ≡ true → Lesser g W X base n
   pub rests : fell ≡ false → (X ≡ W) × P
-
-pub record Either (a b r : Bool) : Type 0 where
-  pub up : r ≡ true → (a ≡ true) ⊎ (b ≡ true)
-  pub down : r ≡ false → (a ≡ false) × (b ≡ false)
 
 -- nothing is left to lower
 pub record Settled (g : Grid) (W X : List ℕ) (base n : ℕ) : Type 0 where

@@ -8,26 +8,26 @@ ghost use Rattle.words.specs.Front.{meet};
 ghost use Rattle.workspace.specs.Entries.{OUTPUT, FINAL};
 ghost use Rattle.workspace.specs.Cells.{at, Sized, Inner, Written, Fits};
 ghost use Rattle.workspace.specs.Holds.{Ready, standing};
-ghost use Rattle.normalize.specs.Fronts.{front_size, front_at, Fronted, Rests, Turn, Either, Settled, Started};
+ghost use Rattle.normalize.specs.Fronts.{front_size, front_at, Fronted, Rests, Turn, Settled, Started};
 ghost use Rattle.normalize.specs.Strip.{stripped_at, Strip, RowStripped, StepsStripped, FinalsStripped, Normalized};
 
-use words::lesser;
-use workspace::{FINAL, FRONT, Grid, NEXT, OUTPUT, append, clear, common, drop_front, get, put};
+use workspace::{FINAL, FRONT, NEXT, OUTPUT, Part, append, clear, common, drop_front, get, put};
 
 // What the front of q and the step on a, with the front after it, have in common.
-fn meeting(work: &[u16], g: Grid, base: usize, n: usize, q: usize, a: usize) -> usize
-    requires fronted { Fronted g work.now base n }
-    requires q_lt_n { (q < n) × (a < g.tags) }
-    ensures { result ≡ length (meet (front_at g work.now base n q) ((standing g work.now base n).output q a ++ front_at g work.now base n ((standing g work.now base n).next q a))) }
+fn meeting(work: &[u16], part: Part, q: usize, a: usize) -> usize
+    requires fronted { Fronted part.grid work.now part.base part.states }
+    requires q_lt_n { (q < part.states) × (a < part.grid.tags) }
+    ensures { result ≡ length (meet (front_at part.grid work.now part.base part.states q) ((standing part.grid work.now part.base part.states).output q a ++ front_at part.grid work.now part.base part.states ((standing part.grid work.now part.base part.states).next q a))) }
 {
-    let own = get(work, g, base + q, g.tags, FRONT);
-    let long = get(work, g, base + q, a, OUTPUT);
+    let Part { grid, base, .. } = part;
+    let own = get(work, grid, base + q, grid.tags, FRONT);
+    let long = get(work, grid, base + q, a, OUTPUT);
     if own <= long {
         return common(
             work,
-            g,
+            grid,
             base + q,
-            g.tags,
+            grid.tags,
             FINAL,
             0,
             base + q,
@@ -38,9 +38,9 @@ fn meeting(work: &[u16], g: Grid, base: usize, n: usize, q: usize, a: usize) -> 
     }
     let j = common(
         work,
-        g,
+        grid,
         base + q,
-        g.tags,
+        grid.tags,
         FINAL,
         0,
         base + q,
@@ -51,122 +51,106 @@ fn meeting(work: &[u16], g: Grid, base: usize, n: usize, q: usize, a: usize) -> 
     if j < long {
         return j;
     }
-    let next = get(work, g, base + q, a, NEXT);
-    let other = get(work, g, base + next, g.tags, FRONT);
+    let next = get(work, grid, base + q, a, NEXT);
+    let other = get(work, grid, base + next, grid.tags, FRONT);
     long + common(
         work,
-        g,
+        grid,
         base + q,
-        g.tags,
+        grid.tags,
         FINAL,
         long,
         base + next,
-        g.tags,
+        grid.tags,
         FINAL,
-        lesser(own - long, other),
+        (own - long).min(other),
     )
 }
 
-fn lower_step(work: &mut [u16], g: Grid, base: usize, n: usize, q: usize, a: usize) -> bool
-    requires fronted { Fronted g work.old base n }
-    requires q_lt_n { (q < n) × (a < g.tags) }
-    ensures { Turn g work.old work.new base n (Rests g work.old base n q a) result }
+fn lower_step(work: &mut [u16], part: Part, q: usize, a: usize) -> bool
+    requires fronted { Fronted part.grid work.old part.base part.states }
+    requires q_lt_n { (q < part.states) × (a < part.grid.tags) }
+    ensures { Turn part.grid work.old work.new part.base part.states (Rests part.grid work.old part.base part.states q a) result }
 {
-    let own = get(work, g, base + q, g.tags, FRONT);
-    let j = meeting(work, g, base, n, q, a);
+    let Part { grid, base, .. } = part;
+    let own = get(work, grid, base + q, grid.tags, FRONT);
+    let j = meeting(work, part, q, a);
     if j < own {
-        put(work, g, base + q, g.tags, FRONT, j);
+        put(work, grid, base + q, grid.tags, FRONT, j);
         return true;
     }
     false
 }
 
-fn either(a: bool, b: bool) -> bool
-    ensures { Either a b result }
+fn lower_steps(work: &mut [u16], part: Part, q: usize) -> bool
+    requires fronted { Fronted part.grid work.old part.base part.states }
+    requires q_lt_n { q < part.states }
+    ensures { Turn part.grid work.old work.new part.base part.states ((a : ℕ) → a < part.grid.tags → Rests part.grid work.old part.base part.states q a) result }
 {
-    if a {
-        return true;
-    }
-    b
-}
-
-fn lower_steps(work: &mut [u16], g: Grid, base: usize, n: usize, q: usize) -> bool
-    requires fronted { Fronted g work.old base n }
-    requires q_lt_n { q < n }
-    ensures { Turn g work.old work.new base n ((a : ℕ) → a < g.tags → Rests g work.old base n q a) result }
-{
-    let tags = g.tags;
     let mut fell = false;
-    let mut a = 0;
-    while a < tags {
-        fell = either(fell, lower_step(work, g, base, n, q, a));
-        a += 1;
+    for a in 0..part.grid.tags {
+        fell |= lower_step(work, part, q, a);
     }
     fell
 }
 
 // The front of q, if there is one, is lowered to what it has in common with every step.
-fn lower_state(work: &mut [u16], g: Grid, base: usize, n: usize, q: usize) -> bool
-    requires fronted { Fronted g work.old base n }
-    requires q_lt_n { q < n }
-    ensures { Turn g work.old work.new base n ((a : ℕ) → a < g.tags → Rests g work.old base n q a) result }
+fn lower_state(work: &mut [u16], part: Part, q: usize) -> bool
+    requires fronted { Fronted part.grid work.old part.base part.states }
+    requires q_lt_n { q < part.states }
+    ensures { Turn part.grid work.old work.new part.base part.states ((a : ℕ) → a < part.grid.tags → Rests part.grid work.old part.base part.states q a) result }
 {
-    if get(work, g, base + q, g.tags, FRONT) == 0 {
+    if get(work, part.grid, part.base + q, part.grid.tags, FRONT) == 0 {
         return false;
     }
-    lower_steps(work, g, base, n, q)
+    lower_steps(work, part, q)
 }
 
-fn lower_all(work: &mut [u16], g: Grid, base: usize, n: usize) -> bool
-    requires { Fronted g work.old base n }
-    ensures { Turn g work.old work.new base n ((q : ℕ) → q < n → (a : ℕ) → a < g.tags → Rests g work.old base n q a) result }
+fn lower_all(work: &mut [u16], part: Part) -> bool
+    requires { Fronted part.grid work.old part.base part.states }
+    ensures { Turn part.grid work.old work.new part.base part.states ((q : ℕ) → q < part.states → (a : ℕ) → a < part.grid.tags → Rests part.grid work.old part.base part.states q a) result }
 {
     let mut fell = false;
-    let mut q = 0;
-    while q < n {
-        fell = either(fell, lower_state(work, g, base, n, q));
-        q += 1;
+    for q in 0..part.states {
+        fell |= lower_state(work, part, q);
     }
     fell
 }
 
-fn settle(work: &mut [u16], g: Grid, base: usize, n: usize)
-    requires { Fronted g work.old base n }
-    ensures { Settled g work.old work.new base n }
+fn settle(work: &mut [u16], part: Part)
+    requires { Fronted part.grid work.old part.base part.states }
+    ensures { Settled part.grid work.old work.new part.base part.states }
 {
-    let mut going = true;
-    while going {
-        going = lower_all(work, g, base, n);
+    while lower_all(work, part) {}
+}
+
+fn start_fronts(work: &mut [u16], part: Part)
+    requires { Ready part.grid work.old part.base part.states }
+    ensures { Started part.grid work.old work.new part.base part.states }
+{
+    let Part { grid, base, .. } = part;
+    for q in 0..part.states {
+        let long = get(work, grid, base + q, grid.tags, FINAL);
+        put(work, grid, base + q, grid.tags, FRONT, long);
     }
 }
 
-fn start_fronts(work: &mut [u16], g: Grid, base: usize, n: usize)
-    requires { Ready g work.old base n }
-    ensures { Started g work.old work.new base n }
+fn strip_step(work: &mut [u16], part: Part, q: usize, a: usize)
+    requires { Strip part.grid work.old part.base q a }
+    ensures { Written part.grid work.old work.new (part.base + q) a OUTPUT (stripped_at part.grid work.old part.base q a) }
 {
-    let mut q = 0;
-    while q < n {
-        let long = get(work, g, base + q, g.tags, FINAL);
-        put(work, g, base + q, g.tags, FRONT, long);
-        q += 1;
-    }
-}
-
-fn strip_step(work: &mut [u16], g: Grid, base: usize, q: usize, a: usize)
-    requires { Strip g work.old base q a }
-    ensures { Written g work.old work.new (base + q) a OUTPUT (stripped_at g work.old base q a) }
-{
-    let own = get(work, g, base + q, g.tags, FRONT);
-    let long = get(work, g, base + q, a, OUTPUT);
-    let next = get(work, g, base + q, a, NEXT);
-    let other = get(work, g, base + next, g.tags, FRONT);
+    let Part { grid, base, .. } = part;
+    let own = get(work, grid, base + q, grid.tags, FRONT);
+    let long = get(work, grid, base + q, a, OUTPUT);
+    let next = get(work, grid, base + q, a, NEXT);
+    let other = get(work, grid, base + next, grid.tags, FRONT);
     if own <= long {
-        drop_front(work, g, base + q, a, OUTPUT, own);
+        drop_front(work, grid, base + q, a, OUTPUT, own);
         append(
             work,
-            g,
+            grid,
             base + next,
-            g.tags,
+            grid.tags,
             FINAL,
             0,
             other,
@@ -176,12 +160,12 @@ fn strip_step(work: &mut [u16], g: Grid, base: usize, q: usize, a: usize)
         );
         return;
     }
-    clear(work, g, base + q, a, OUTPUT);
+    clear(work, grid, base + q, a, OUTPUT);
     append(
         work,
-        g,
+        grid,
         base + next,
-        g.tags,
+        grid.tags,
         FINAL,
         own - long,
         other,
@@ -191,50 +175,44 @@ fn strip_step(work: &mut [u16], g: Grid, base: usize, q: usize, a: usize)
     );
 }
 
-fn strip_row(work: &mut [u16], g: Grid, base: usize, q: usize)
-    requires { (a : ℕ) → a < g.tags → Strip g work.old base q a }
-    ensures { RowStripped g work.old work.new base q g.tags }
+fn strip_row(work: &mut [u16], part: Part, q: usize)
+    requires { (a : ℕ) → a < part.grid.tags → Strip part.grid work.old part.base q a }
+    ensures { RowStripped part.grid work.old work.new part.base q part.grid.tags }
 {
-    let tags = g.tags;
-    let mut a = 0;
-    while a < tags {
-        strip_step(work, g, base, q, a);
-        a += 1;
+    for a in 0..part.grid.tags {
+        strip_step(work, part, q, a);
     }
 }
 
-fn strip_steps(work: &mut [u16], g: Grid, base: usize, n: usize)
-    requires { (q a : ℕ) → q < n → a < g.tags → Strip g work.old base q a }
-    ensures { StepsStripped g work.old work.new base n }
+fn strip_steps(work: &mut [u16], part: Part)
+    requires { (q a : ℕ) → q < part.states → a < part.grid.tags → Strip part.grid work.old part.base q a }
+    ensures { StepsStripped part.grid work.old work.new part.base part.states }
 {
-    let mut q = 0;
-    while q < n {
-        strip_row(work, g, base, q);
-        q += 1;
+    for q in 0..part.states {
+        strip_row(work, part, q);
     }
 }
 
-fn strip_finals(work: &mut [u16], g: Grid, base: usize, n: usize)
-    requires sized { Sized g work.old }
-    requires n_bound { (base + n ≤ g.rows) × Fits g FINAL 0 }
-    requires by_index { (q : ℕ) → q < n → Inner g work.old (base + q) g.tags FINAL × (front_size g work.old base q ≤ at g work.old (base + q) g.tags FINAL) }
-    ensures { FinalsStripped g work.old work.new base n }
+fn strip_finals(work: &mut [u16], part: Part)
+    requires sized { Sized part.grid work.old }
+    requires n_bound { (part.base + part.states ≤ part.grid.rows) × Fits part.grid FINAL 0 }
+    requires by_index { (q : ℕ) → q < part.states → Inner part.grid work.old (part.base + q) part.grid.tags FINAL × (front_size part.grid work.old part.base q ≤ at part.grid work.old (part.base + q) part.grid.tags FINAL) }
+    ensures { FinalsStripped part.grid work.old work.new part.base part.states }
 {
-    let mut q = 0;
-    while q < n {
-        let own = get(work, g, base + q, g.tags, FRONT);
-        drop_front(work, g, base + q, g.tags, FINAL, own);
-        q += 1;
+    let Part { grid, base, .. } = part;
+    for q in 0..part.states {
+        let own = get(work, grid, base + q, grid.tags, FRONT);
+        drop_front(work, grid, base + q, grid.tags, FINAL, own);
     }
 }
 
-// The n states in the rows from `base`.
-pub fn normalize(work: &mut [u16], g: Grid, base: usize, n: usize)
-    requires { Ready g work.old base n }
-    ensures { Normalized g work.old work.new base n }
+// The states of the part.
+pub fn normalize(work: &mut [u16], part: Part)
+    requires { Ready part.grid work.old part.base part.states }
+    ensures { Normalized part.grid work.old work.new part.base part.states }
 {
-    start_fronts(work, g, base, n);
-    settle(work, g, base, n);
-    strip_steps(work, g, base, n);
-    strip_finals(work, g, base, n);
+    start_fronts(work, part);
+    settle(work, part);
+    strip_steps(work, part);
+    strip_finals(work, part);
 }

@@ -12,47 +12,46 @@ ghost use Rattle.worklist.specs.Worklist.{listed, Worklist};
 ghost use Rattle.number.specs.Order.{Classed, merged_at, Lists};
 ghost use Rattle.number.specs.Numbering.{Ordered, numbered_at, Rowing, Numbered};
 
-use workspace::{CLASS, FINAL, Grid, NEXT, OUTPUT, append_word, clear, get, put};
+use workspace::{CLASS, FINAL, Grid, NEXT, OUTPUT, Part, append_word, clear, get, put};
 
 // The class of the state that q goes to on a.
-fn next_class(work: &[u16], g: Grid, base: usize, n: usize, q: usize, a: usize) -> usize
-    requires classed { Classed g work.now base n }
-    requires q_lt_n { (q < n) × (a < g.tags) }
-    ensures { (result ≡ (shape (merged_at g work.now base n)).next q a) × (result < n) }
+fn next_class(work: &[u16], part: Part, q: usize, a: usize) -> usize
+    requires classed { Classed part.grid work.now part.base part.states }
+    requires q_lt_n { (q < part.states) × (a < part.grid.tags) }
+    ensures { (result ≡ (shape (merged_at part.grid work.now part.base part.states)).next q a) × (result < part.states) }
 {
-    let next = get(work, g, base + q, a, NEXT);
-    get(work, g, base + next, g.tags, CLASS)
+    let Part { grid, base, .. } = part;
+    let next = get(work, grid, base + q, a, NEXT);
+    get(work, grid, base + next, grid.tags, CLASS)
 }
 
 // The next states of q are appended to the list.
-fn add_steps(work: &mut [u16], g: Grid, base: usize, n: usize, len: usize, q: usize) -> usize
-    requires classed { Classed g work.old base n }
-    requires worklist { Worklist g work.old base n len }
-    requires q_lt_n { q < n }
-    ensures { Lists g work.old work.new base n (note_all (row (merged_at g work.old base n) q).steps (listed g work.old base len)) result }
+fn add_steps(work: &mut [u16], part: Part, len: usize, q: usize) -> usize
+    requires classed { Classed part.grid work.old part.base part.states }
+    requires worklist { Worklist part.grid work.old part.base part.states len }
+    requires q_lt_n { q < part.states }
+    ensures { Lists part.grid work.old work.new part.base part.states (note_all (row (merged_at part.grid work.old part.base part.states) q).steps (listed part.grid work.old part.base len)) result }
 {
-    let tags = g.tags;
     let mut to = len;
-    let mut a = 0;
-    while a < tags {
-        let s = next_class(work, g, base, n, q, a);
-        to = worklist::enter(work, g, base, n, to, s);
-        a += 1;
+    for a in 0..part.grid.tags {
+        let s = next_class(work, part, q, a);
+        to = worklist::enter(work, part.grid, part.base, part.states, to, s);
     }
     to
 }
 
 // The list from state 0 on: its length.
-fn search(work: &mut [u16], g: Grid, base: usize, n: usize) -> usize
-    requires classed { Classed g work.old base n }
-    requires worklist { Worklist g work.old base n 1 }
-    ensures { Lists g work.old work.new base n (order (merged_at g work.old base n)) result }
+fn search(work: &mut [u16], part: Part) -> usize
+    requires classed { Classed part.grid work.old part.base part.states }
+    requires worklist { Worklist part.grid work.old part.base part.states 1 }
+    ensures { Lists part.grid work.old work.new part.base part.states (order (merged_at part.grid work.old part.base part.states)) result }
 {
     let mut len = 1;
     let mut i = 0;
+    // Stays: the list grows while it is walked, and a range would fix its end before.
     while i < len {
-        let q = worklist::member(work, g, base, n, len, i);
-        len = add_steps(work, g, base, n, len, q);
+        let q = worklist::member(work, part.grid, part.base, part.states, len, i);
+        len = add_steps(work, part, len, q);
         i += 1;
     }
     len
@@ -72,105 +71,77 @@ fn copy_word(work: &mut [u16], g: Grid, r: usize, c: usize, s: usize, r2: usize)
 // The place of the state that the i-th one goes to on a.
 fn next_place(
     work: &[u16],
-    g: Grid,
-    base: usize,
-    n: usize,
+    part: Part,
     count: usize,
     to: usize,
     i: usize,
     q: usize,
     a: usize,
 ) -> usize
-    requires rowing { Rowing g work.now base n count to i q }
-    requires a_lt_tags { a < g.tags }
-    ensures { (result ≡ (numbered_at g work.now base n).next i a) × (result < n) }
+    requires rowing { Rowing part.grid work.now part.base part.states count to i q }
+    requires a_lt_tags { a < part.grid.tags }
+    ensures { (result ≡ (numbered_at part.grid work.now part.base part.states).next i a) × (result < part.states) }
 {
-    let s = next_class(work, g, base, n, q, a);
-    worklist::place_of(work, g, base, n, count, s)
+    let s = next_class(work, part, q, a);
+    worklist::place_of(work, part.grid, part.base, part.states, count, s)
 }
 
-fn number_step(
-    work: &mut [u16],
-    g: Grid,
-    base: usize,
-    n: usize,
-    count: usize,
-    to: usize,
-    i: usize,
-    q: usize,
-    a: usize,
-)
-    requires rowing { Rowing g work.old base n count to i q }
-    requires a_lt_tags { a < g.tags }
-    ensures { Stepped g work.old work.new (to + i) a ((numbered_at g work.old base n).next i a) ((numbered_at g work.old base n).output i a) }
+fn number_step(work: &mut [u16], part: Part, count: usize, to: usize, i: usize, q: usize, a: usize)
+    requires rowing { Rowing part.grid work.old part.base part.states count to i q }
+    requires a_lt_tags { a < part.grid.tags }
+    ensures { Stepped part.grid work.old work.new (to + i) a ((numbered_at part.grid work.old part.base part.states).next i a) ((numbered_at part.grid work.old part.base part.states).output i a) }
 {
-    let next = next_place(work, g, base, n, count, to, i, q, a);
-    copy_word(work, g, base + q, a, OUTPUT, to + i);
-    put(work, g, to + i, a, NEXT, next);
+    let next = next_place(work, part, count, to, i, q, a);
+    copy_word(work, part.grid, part.base + q, a, OUTPUT, to + i);
+    put(work, part.grid, to + i, a, NEXT, next);
 }
 
-fn number_steps(
-    work: &mut [u16],
-    g: Grid,
-    base: usize,
-    n: usize,
-    count: usize,
-    to: usize,
-    i: usize,
-    q: usize,
-)
-    requires { Rowing g work.old base n count to i q }
-    ensures { Stepping g work.old work.new (to + i) (numbered_at g work.old base n) i g.tags }
+fn number_steps(work: &mut [u16], part: Part, count: usize, to: usize, i: usize, q: usize)
+    requires { Rowing part.grid work.old part.base part.states count to i q }
+    ensures { Stepping part.grid work.old work.new (to + i) (numbered_at part.grid work.old part.base part.states) i part.grid.tags }
 {
-    let tags = g.tags;
-    let mut a = 0;
-    while a < tags {
-        number_step(work, g, base, n, count, to, i, q, a);
-        a += 1;
+    for a in 0..part.grid.tags {
+        number_step(work, part, count, to, i, q, a);
     }
 }
 
-fn number_row(
-    work: &mut [u16],
-    g: Grid,
-    base: usize,
-    n: usize,
-    count: usize,
-    to: usize,
-    i: usize,
-    q: usize,
-)
-    requires { Rowing g work.old base n count to i q }
-    ensures { Rowed g work.old work.new (to + i) (numbered_at g work.old base n) i }
+fn number_row(work: &mut [u16], part: Part, count: usize, to: usize, i: usize, q: usize)
+    requires { Rowing part.grid work.old part.base part.states count to i q }
+    ensures { Rowed part.grid work.old work.new (to + i) (numbered_at part.grid work.old part.base part.states) i }
 {
-    number_steps(work, g, base, n, count, to, i, q);
-    copy_word(work, g, base + q, g.tags, FINAL, to + i);
+    number_steps(work, part, count, to, i, q);
+    copy_word(
+        work,
+        part.grid,
+        part.base + q,
+        part.grid.tags,
+        FINAL,
+        to + i,
+    );
 }
 
-fn number_rows(work: &mut [u16], g: Grid, base: usize, n: usize, count: usize, to: usize)
-    requires ordered { Ordered g work.old base n count }
-    requires count_bound { to + count ≤ base }
-    ensures { Filling g work.old work.new to count (numbered_at g work.old base n) count }
+fn number_rows(work: &mut [u16], part: Part, count: usize, to: usize)
+    requires ordered { Ordered part.grid work.old part.base part.states count }
+    requires count_bound { to + count ≤ part.base }
+    ensures { Filling part.grid work.old work.new to count (numbered_at part.grid work.old part.base part.states) count }
 {
-    let mut i = 0;
-    while i < count {
-        let q = worklist::member(work, g, base, n, count, i);
-        number_row(work, g, base, n, count, to, i, q);
-        i += 1;
+    for i in 0..count {
+        let q = worklist::member(work, part.grid, part.base, part.states, count, i);
+        number_row(work, part, count, to, i, q);
     }
 }
 
 // The number of states; the numbered table goes to the rows from `to` if they are no more than the ceiling.
-pub fn number(work: &mut [u16], g: Grid, base: usize, n: usize, to: usize, ceiling: usize) -> usize
-    requires classed { Classed g work.old base n }
-    requires ceiling_bound { to + ceiling ≤ base }
-    ensures { Numbered g work.old work.new base n to ceiling result }
+pub fn number(work: &mut [u16], part: Part, to: usize, ceiling: usize) -> usize
+    requires classed { Classed part.grid work.old part.base part.states }
+    requires ceiling_bound { to + ceiling ≤ part.base }
+    ensures { Numbered part.grid work.old work.new part.base part.states to ceiling result }
 {
-    worklist::begin(work, g, base, n);
-    let count = search(work, g, base, n);
+    worklist::begin(work, part.grid, part.base, part.states);
+    let count = search(work, part);
     if ceiling < count {
         return count;
     }
-    number_rows(work, g, base, n, count, to);
+    number_rows(work, part, count, to);
     count
 }

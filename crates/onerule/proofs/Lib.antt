@@ -3,3 +3,4 @@ pub mod Words
 pub mod Behind
 pub mod Agree
 pub mod Ruled
+pub mod Formed

@@ -1,7 +1,7 @@
 -- The rows that are written hold the rule's transducer, which begins afresh after an end tag.
 use Prim.Native.Nat.{ℕ, ◌+◌, ◌-◌, ◌≤◌, ◌<◌}
 use native.Mathlib.Omega.{arith}
-use mathlib.Core.Path.{◌≡◌, refl, sym, ap, ◌∙◌, subst}
+use mathlib.Core.Path.{◌≡◌, refl, sym, ap, ◌∙◌}
 use mathlib.Core.Bool.{Bool, true, false}
 use mathlib.Core.List.{List, ◌++◌, append-nil}
 use borrow.Author.Tests.{eqb-true}
@@ -76,7 +76,3 @@ module _ (g : Grid) (W X : List ℕ) (base count e : ℕ) (r : Rule) (S : Shape)
                   (λ q h. row-ended l v (base + q) q (omega (arith, same.count_is)) (f.states q (omega arith)));
             };
       }
-
--- the same number, said otherwise
-pub ruled_as : {g : Grid} {W X : List ℕ} {base m n e : ℕ} {r : Rule} → m ≡ n → Ruled g W X base n e r → Ruled g W X base m e r
-ruled_as {g} {W} {X} {base} {m} {n} {e} {r} is h = subst (λ (c : ℕ). Ruled g W X base c e r) (sym is) h

@@ -1,24 +1,24 @@
 -- The words of a rule's transducer are within their cells, in both ways to keep what is matched.
 use Prim.Native.Nat.{ℕ, suc, ◌+◌, ◌-◌, ◌≤◌, ◌<◌}
 use native.Mathlib.Omega.{arith}
-use mathlib.Core.Path.{◌≡◌, refl, ap, subst}
+use mathlib.Core.Path.{◌≡◌, refl, subst}
 use mathlib.Core.Bool.{Bool, true, false}
 use mathlib.Core.List.{List, [], ◌∷◌, ◌++◌}
 use borrow.Author.Tests.{eqb-false}
 use lib.Dec.{eqb}
 use lib.ListN.{length, set, take, drop, get_or, length-append, length-drop, length-take, length-set}
 use Rattle.cascades.specs.Rule.{Kind}
-use Rattle.transducers.specs.Transducer.{Shape}
 use Rattle.minimal.specs.Matcher.{held, said}
-use Rattle.minimal.specs.Bits.{width}
-use Rattle.minimal.proofs.Bits.{width_le}
+use Rattle.minimal.proofs.Bits.{width_le, state-below}
 use Rattle.workspace.specs.declared.Grid.{Grid}
-use Rattle.workspace.specs.Entries.{FINAL}
 use Rattle.workspace.specs.Holds.{Stepped, Roomy}
 use Rattle.matcher.specs.Next.{goes, restarts}
 use Rattle.matcher.proofs.Next.{goes-few}
 use Rattle.alive.specs.Alive.{stepped}
-use Rattle.onerule.specs.Rule.{by_lengths, by_bits, afresh}
+use Rattle.alive.proofs.Alive.{stepped-longest}
+use Rattle.outputs.specs.Words.{Room}
+use Rattle.onerule.specs.declared.Pattern.{Pattern}
+use Rattle.onerule.specs.States.{Numbered, speaking, Within, in_lengths, in_bits}
 
 module _ (u : List ℕ) (p t : ℕ) (inside : p < length u) where
   held_le : (j : ℕ) → j ≤ length u → length (held u p j) + 1 ≤ length u
@@ -50,23 +50,29 @@ module _ (u : List ℕ) (p t : ℕ) (inside : p < length u) where
             held_le j h,
           )
 
-  module _ (g : Grid) (deep : length u + FINAL ≤ g.depth) where
-    -- where `longest` is what is matched in a state, and `to` what is matched then
-    roomy-words : (S : Shape) (longest : ℕ → ℕ) (to : ℕ → ℕ → ℕ) → ((q : ℕ) → q < S.count → longest q ≤ length u)
-        → ((q a : ℕ) → S.output q a ≡ said u p t (longest q) a (to q a)) → ((q : ℕ) → S.final q ≡ held u p (longest q)) → Roomy g S
-    roomy-words S longest to few outputs finals =
-        record {
-          outputs = λ q a hq ha. omega (arith, ap length (outputs q a), said_le (longest q) a (to q a) (few q hq));
-          finals = λ q hq. omega (arith, ap length (finals q), held_le (longest q) (few q hq));
-        }
+pub roomy-words : (p : Pattern) (g : Grid) {W : List ℕ} → Room g W p.tags.now p.place → (N : Numbered) → Within (length p.tags.now) N → Roomy g (speaking N p)
+roomy-words p g room N within =
+    let u = p.tags.now in
+    record {
+      outputs = λ q a hq ha. omega (arith, said_le u p.place p.tag room.place_inside (N.matched q) a (N.grown q a) (within.matched_few q hq), room.deep);
+      finals = λ q hq. omega (arith, held_le u p.place p.tag room.place_inside (N.matched q) (within.matched_few q hq), room.deep);
+    }
 
-    pub roomy-lengths : (count e : ℕ) → count ≤ length u + 1 → Roomy g (afresh e (by_lengths count u p t))
-    roomy-lengths count e few = roomy-words (afresh e (by_lengths count u p t)) (λ j. j) (goes u) (λ q h. omega arith) (λ q a. refl) (λ q. refl)
+pub lengths_within : (count : ℕ) (u : List ℕ) (e : ℕ) → count ≤ length u + 1 → Within (length u) (in_lengths count u e)
+lengths_within count u e few =
+    record {
+      matched_few = λ j h. omega arith;
+      grown_few = λ j a h. (goes-few u j a (omega arith)).1;
+      grown_next = λ j a h. (goes-few u j a (omega arith)).0;
+    }
 
-    pub roomy-bits : (k : Kind) (masks : List ℕ) (e : ℕ) → Roomy g (afresh e (by_bits k masks u p t))
-    roomy-bits k masks e =
-        roomy-words (afresh e (by_bits k masks u p t)) (width (length u)) (λ s a. width (length u) (stepped s (get_or masks a 0)))
-        (λ q h. width_le (length u) q) (λ q a. refl) (λ q. refl)
+pub bits_within : (k : Kind) (masks u : List ℕ) (e : ℕ) → 0 < length u → Within (length u) (in_bits k masks u e)
+bits_within k masks u e some =
+    record {
+      matched_few = λ s h. width_le (length u) s;
+      grown_few = λ s a h. width_le (length u) (stepped s (get_or masks a 0));
+      grown_next = λ s a h. stepped-longest (length u) s (get_or masks a 0) (state-below k (length u) s some h);
+    }
 
 pub restarts-below : (u : List ℕ) (count e j a : ℕ) → j ≤ length u → restarts count e a (goes u j a) ≤ length u
 restarts-below u count e j a h = by (eqb a e) (eqb (goes u j a) count)

@@ -1,2 +1,3 @@
 -- The transducer of one rule in the work slice.
 pub mod Rule
+pub mod States

@@ -5,22 +5,21 @@
 // with sets; `outputs` has its words.
 #![tactic(auto)]
 
-ghost use Rattle.std.specs.Prelude.{◌≡◌, ◌+◌, ◌^◌, ◌≤◌, ◌<◌, false, [], length, take, get_or};
+ghost use Rattle.std.specs.Prelude.{ℕ, ◌≡◌, ◌+◌, ◌^◌, ◌≤◌, ◌<◌, false, List, [], length, take, get_or};
 ghost use Rattle.limits.specs.Limits.{longest_pattern, most_tags};
-ghost use Rattle.borders.specs.Border.{Borders};
 ghost use Rattle.cascades.specs.Pattern.{word, plain};
 ghost use Rattle.cascades.specs.Value.{kind_of, rule_of, Formed};
 ghost use Rattle.cascades.specs.Ending.{before};
-ghost use Rattle.minimal.specs.Matcher.{said};
-ghost use Rattle.minimal.specs.Bits.{width, alive_states};
 ghost use Rattle.minimal.specs.OneRule.{states, one_rule};
-ghost use Rattle.workspace.specs.Holds.{Stepped, Stepping, Rowed, Filling};
-ghost use Rattle.matcher.specs.Next.{Behind};
-ghost use Rattle.alive.specs.Alive.{Narrow, stepped, leads};
+ghost use Rattle.workspace.specs.declared.Grid.{Grid};
+ghost use Rattle.workspace.specs.Cells.{Sized};
+ghost use Rattle.workspace.specs.Holds.{Stepped, Rowed, Filling};
 ghost use Rattle.outputs.specs.Words.{Room};
+ghost use Rattle.onerule.specs.declared.Pattern.{Pattern};
 ghost use Rattle.onerule.specs.Rule.{by_lengths, by_bits, afresh, Ruled};
+ghost use Rattle.onerule.specs.States.{Numbered, speaking, Within, Before, in_lengths, in_bits, ByLengths, ByBits};
 
-use alive::{count_alive, leads, longest, masks_of, step, wide};
+use alive::{count_alive, leads, longest, masks_of, step};
 use borders::find_borders;
 use cascades::Rule;
 use limits::{PATTERN, TAGS};
@@ -28,115 +27,208 @@ use matcher::{count_states, next_of, restart};
 use outputs::{write_final, write_output};
 use workspace::{Grid, NEXT, put};
 
-// ---- a rule without sets, by borders
-
-fn write_step(
-    work: &mut [u16],
-    g: Grid,
-    r: usize,
-    back: usize,
-    u: &[u8],
+// A rule's pattern with the place that its new tag is for, and the tag that ends a sentence.
+#[derive(Clone, Copy)]
+struct Pattern<'a> {
+    tags: &'a [u8],
     place: usize,
     tag: u8,
     end: usize,
+}
+
+// How much of the pattern is matched before a tag and after it, and the state that it leads to.
+#[derive(Clone, Copy)]
+struct Step {
+    matched: usize,
+    grown: usize,
+    next: usize,
+}
+
+// The states of a rule's transducer as numbers: how much of the pattern is matched in each, which tells what is held at the end, and what a tag does.
+trait States {
+    ghost numbered: { Self → Pattern → Numbered };
+
+    ghost Serves: { Self → Grid → Pattern → Type 0 };
+
+    fn matched(&self, g: Grid, pattern: Pattern, q: usize) -> usize
+        requires serves { Serves self.now g pattern }
+        requires q_in { q < (numbered self.now pattern).count }
+        ensures { result ≡ (numbered self.now pattern.entry).matched q };
+
+    // The rows of the states before q are written.
+    fn step(&self, work: &[u16], g: Grid, base: usize, pattern: Pattern, q: usize, a: usize) -> Step
+        requires serves { Serves self.now g pattern }
+        requires sized { Sized g work.now × (0 < g.depth) }
+        requires q_in { (q < (numbered self.now pattern).count) × (base + q < g.rows) × (a < g.tags) }
+        requires earlier { Before g work.now base (numbered self.now pattern) q }
+        ensures matched { result.matched ≡ (numbered self.now pattern.entry).matched q }
+        ensures grown { result.grown ≡ (numbered self.now pattern.entry).grown q a }
+        ensures next { (result.next ≡ (numbered self.now pattern.entry).next q a) × (result.next < 0x10000) };
+}
+
+// A rule without sets: a state is how much is matched, and goes by the row of its longest border.
+#[derive(Clone, Copy)]
+struct Lengths<'a> {
+    borders: &'a [usize],
     count: usize,
-    j: usize,
+}
+
+impl States for Lengths<'_> {
+    ghost numbered = { λ s p. in_lengths s.count p.tags.now p.end };
+
+    ghost Serves = { λ s g p. ByLengths s.count s.borders.now p.tags.now p.end };
+
+    fn matched(&self, _g: Grid, _pattern: Pattern, q: usize) -> usize {
+        q
+    }
+
+    fn step(
+        &self,
+        work: &[u16],
+        g: Grid,
+        base: usize,
+        pattern: Pattern,
+        q: usize,
+        a: usize,
+    ) -> Step {
+        let back = base + self.borders[q];
+        let grown = next_of(work, g, back, pattern.tags, q, a);
+        let next = restart(grown, a, pattern.end, self.count);
+        Step {
+            matched: q,
+            grown,
+            next,
+        }
+    }
+}
+
+// A rule with sets: a state is the matches that are alive, as bits.
+#[derive(Clone, Copy)]
+struct Bits<'a> {
+    masks: &'a [u16; TAGS],
+    everywhere: bool,
+}
+
+impl States for Bits<'_> {
+    ghost numbered = { λ s p. in_bits (kind_of s.everywhere) s.masks.now p.tags.now p.end };
+
+    ghost Serves = { λ s g p. ByBits g.tags s.masks.now p.tags.now };
+
+    fn matched(&self, _g: Grid, _pattern: Pattern, q: usize) -> usize {
+        longest(q as u16)
+    }
+
+    fn step(
+        &self,
+        _work: &[u16],
+        _g: Grid,
+        _base: usize,
+        pattern: Pattern,
+        q: usize,
+        a: usize,
+    ) -> Step {
+        let alive = q as u16;
+        let then = step(alive, self.masks[a]);
+        let to = leads(
+            alive,
+            then,
+            pattern.tags.len(),
+            self.everywhere,
+            a,
+            pattern.end,
+        );
+        Step {
+            matched: longest(alive),
+            grown: longest(then),
+            next: usize::from(to),
+        }
+    }
+}
+
+fn write_step<S: States>(
+    work: &mut [u16],
+    g: Grid,
+    base: usize,
+    pattern: Pattern,
+    states: &S,
+    q: usize,
     a: usize,
 )
-    requires room { Room g work.old u.now place }
-    requires r_lt_rows { (r < g.rows) × (a < g.tags) × (j < count) × (count ≤ length u.now + 1) }
-    requires behind { Behind g work.old back u.now j }
-    ensures { Stepped g work.old work.new r a ((afresh end (by_lengths count u.now place tag)).next j a) ((afresh end (by_lengths count u.now place tag)).output j a) }
+    requires room { Room g work.old pattern.tags.now pattern.place }
+    requires serves { S.Serves states.now g pattern }
+    requires within { Within (length pattern.tags.now) (S.numbered states.now pattern) }
+    requires q_in { (q < (S.numbered states.now pattern).count) × (base + q < g.rows) × (a < g.tags) }
+    requires earlier { Before g work.old base (S.numbered states.now pattern) q }
+    ensures { Stepped g work.old work.new (base + q) a ((speaking (S.numbered states.now pattern.entry) pattern.entry).next q a) ((speaking (S.numbered states.now pattern.entry) pattern.entry).output q a) }
 {
-    let next = next_of(work, g, back, u, j, a);
-    write_output(work, g, r, u, place, tag, j, a, next);
-    put(work, g, r, a, NEXT, restart(next, a, end, count));
-}
-
-fn write_steps(
-    work: &mut [u16],
-    g: Grid,
-    r: usize,
-    back: usize,
-    u: &[u8],
-    place: usize,
-    tag: u8,
-    end: usize,
-    count: usize,
-    j: usize,
-)
-    requires room { Room g work.old u.now place }
-    requires r_lt_rows { (r < g.rows) × (j < count) × (count ≤ length u.now + 1) }
-    requires behind { Behind g work.old back u.now j × (0 < j → back < r) }
-    ensures { Stepping g work.old work.new r (afresh end (by_lengths count u.now place tag)) j g.tags }
-{
-    let tags = g.tags;
-    let mut a = 0;
-    while a < tags {
-        write_step(work, g, r, back, u, place, tag, end, count, j, a);
-        a += 1;
-    }
-}
-
-// To the row base + j the state of the first j tags, by their longest border.
-fn write_state(
-    work: &mut [u16],
-    g: Grid,
-    base: usize,
-    border: usize,
-    u: &[u8],
-    place: usize,
-    tag: u8,
-    end: usize,
-    count: usize,
-    j: usize,
-)
-    requires room { Room g work.old u.now place }
-    requires j_bound { (base + j < g.rows) × (j < count) × (count ≤ length u.now + 1) }
-    requires behind { Behind g work.old (base + border) u.now j × (0 < j → border < j) }
-    ensures { Rowed g work.old work.new (base + j) (afresh end (by_lengths count u.now place tag)) j }
-{
-    write_steps(
+    let to = states.step(work, g, base, pattern, q, a);
+    write_output(
         work,
         g,
-        base + j,
-        base + border,
-        u,
-        place,
-        tag,
-        end,
-        count,
-        j,
+        base + q,
+        pattern.tags,
+        pattern.place,
+        pattern.tag,
+        to.matched,
+        a,
+        to.grown,
     );
-    write_final(work, g, base + j, u, place, tag, j);
+    put(work, g, base + q, a, NEXT, to.next);
 }
 
-// So many states to the rows from `base`.
-fn write_states(
+// To the row base + q the state q.
+fn write_state<S: States>(
     work: &mut [u16],
     g: Grid,
     base: usize,
-    u: &[u8],
-    borders: &[usize],
-    place: usize,
-    tag: u8,
-    end: usize,
+    pattern: Pattern,
+    states: &S,
+    q: usize,
+)
+    requires room { Room g work.old pattern.tags.now pattern.place }
+    requires serves { S.Serves states.now g pattern }
+    requires within { Within (length pattern.tags.now) (S.numbered states.now pattern) }
+    requires q_in { (q < (S.numbered states.now pattern).count) × (base + q < g.rows) }
+    requires earlier { Before g work.old base (S.numbered states.now pattern) q }
+    ensures { Rowed g work.old work.new (base + q) (speaking (S.numbered states.now pattern.entry) pattern.entry) q }
+{
+    for a in 0..g.tags {
+        write_step(work, g, base, pattern, states, q, a);
+    }
+    let matched = states.matched(g, pattern, q);
+    write_final(
+        work,
+        g,
+        base + q,
+        pattern.tags,
+        pattern.place,
+        pattern.tag,
+        matched,
+    );
+}
+
+// All so many states to the rows from `base`.
+fn write_states<S: States>(
+    work: &mut [u16],
+    g: Grid,
+    base: usize,
+    pattern: Pattern,
+    states: &S,
     count: usize,
 )
-    requires room { Room g work.old u.now place }
-    requires count_bound { (base + count ≤ g.rows) × (length u.now ≤ count) × (count ≤ length u.now + 1) × (before end (plain u.now) ≡ false) }
-    requires borders { Borders u.now borders.now }
-    ensures { Filling g work.old work.new base count (afresh end (by_lengths count u.now place tag)) count }
+    requires room { Room g work.old pattern.tags.now pattern.place }
+    requires serves { S.Serves states.now g pattern }
+    requires within { Within (length pattern.tags.now) (S.numbered states.now pattern) }
+    requires count_is { (count ≡ (S.numbered states.now pattern).count) × (base + count ≤ g.rows) }
+    ensures { Filling g work.old work.new base count (speaking (S.numbered states.now pattern.entry) pattern.entry) count }
 {
-    let mut j = 0;
-    while j < count {
-        write_state(work, g, base, borders[j], u, place, tag, end, count, j);
-        j += 1;
+    for q in 0..count {
+        write_state(work, g, base, pattern, states, q);
     }
 }
 
-// All its states: how many they are.
-fn write_by_borders(work: &mut [u16], g: Grid, base: usize, rule: Rule, end: usize) -> usize
+// The states of a rule without sets: how many they are.
+fn write_by_lengths(work: &mut [u16], g: Grid, base: usize, rule: Rule, end: usize) -> usize
     requires row_len { (length rule.row ≡ longest_pattern) × (rule.length ≤ longest_pattern) }
     requires room { Room g work.old (take rule.length rule.row) rule.place }
     requires length_bound { (base + states (kind_of rule.everywhere) rule.length ≤ g.rows) × (before end (plain (take rule.length rule.row)) ≡ false) }
@@ -148,121 +240,21 @@ fn write_by_borders(work: &mut [u16], g: Grid, base: usize, rule: Rule, end: usi
     let count = count_states(rule);
     let mut borders = [0; PATTERN + 1];
     find_borders(&row[..length], &mut borders);
-    write_states(
-        work,
-        g,
-        base,
-        &row[..length],
-        &borders,
-        rule.place,
-        rule.tag,
+    let pattern = Pattern {
+        tags: &row[..length],
+        place: rule.place,
+        tag: rule.tag,
         end,
+    };
+    let states = Lengths {
+        borders: &borders,
         count,
-    );
+    };
+    write_states(work, g, base, pattern, &states, count);
     count
 }
 
-// ---- a rule with sets, by bits
-
-fn write_alive_step(
-    work: &mut [u16],
-    g: Grid,
-    r: usize,
-    u: &[u8],
-    place: usize,
-    tag: u8,
-    everywhere: bool,
-    end: usize,
-    alive: u16,
-    mask: u16,
-    a: usize,
-)
-    requires room { Room g work.old u.now place }
-    requires r_lt_rows { (r < g.rows) × (a < g.tags) }
-    requires u_len_bound { (length u.now ≤ longest_pattern) × (alive < 2 ^ length u.now) × (mask < 2 ^ length u.now) }
-    ensures { Stepped g work.old work.new r a (leads (kind_of everywhere) (length u.now) end alive (stepped alive mask) a) (said u.now place tag (width (length u.now) alive) a (width (length u.now) (stepped alive mask))) }
-{
-    let next = step(alive, mask);
-    write_output(work, g, r, u, place, tag, longest(alive), a, longest(next));
-    let to = leads(alive, next, u.len(), everywhere, a, end);
-    put(work, g, r, a, NEXT, wide(to));
-}
-
-fn write_alive_steps(
-    work: &mut [u16],
-    g: Grid,
-    r: usize,
-    u: &[u8],
-    masks: &[u16; TAGS],
-    place: usize,
-    tag: u8,
-    everywhere: bool,
-    end: usize,
-    alive: u16,
-)
-    requires room { Room g work.old u.now place }
-    requires r_lt_rows { (r < g.rows) × (length u.now ≤ longest_pattern) × (alive < alive_states (kind_of everywhere) (length u.now)) }
-    requires narrow { Narrow (length u.now) g.tags masks.now }
-    ensures { Stepping g work.old work.new r (afresh end (by_bits (kind_of everywhere) masks.now u.now place tag)) alive g.tags }
-{
-    let tags = g.tags;
-    let mut a = 0;
-    while a < tags {
-        let mask = masks[a];
-        write_alive_step(work, g, r, u, place, tag, everywhere, end, alive, mask, a);
-        a += 1;
-    }
-}
-
-// To the row of these matches, counted from `base`, their state.
-fn write_alive_state(
-    work: &mut [u16],
-    g: Grid,
-    base: usize,
-    u: &[u8],
-    masks: &[u16; TAGS],
-    place: usize,
-    tag: u8,
-    everywhere: bool,
-    end: usize,
-    alive: u16,
-)
-    requires room { Room g work.old u.now place }
-    requires alive_bound { (base + alive < g.rows) × (length u.now ≤ longest_pattern) × (alive < alive_states (kind_of everywhere) (length u.now)) }
-    requires narrow { Narrow (length u.now) g.tags masks.now }
-    ensures { Rowed g work.old work.new (base + alive) (afresh end (by_bits (kind_of everywhere) masks.now u.now place tag)) alive }
-{
-    let r = base + wide(alive);
-    write_alive_steps(work, g, r, u, masks, place, tag, everywhere, end, alive);
-    write_final(work, g, r, u, place, tag, longest(alive));
-}
-
-// So many states to the rows from `base`.
-fn write_alive_states(
-    work: &mut [u16],
-    g: Grid,
-    base: usize,
-    u: &[u8],
-    masks: &[u16; TAGS],
-    place: usize,
-    tag: u8,
-    everywhere: bool,
-    end: usize,
-    count: u16,
-)
-    requires room { Room g work.old u.now place }
-    requires count_bound { (base + count ≤ g.rows) × (length u.now ≤ longest_pattern) × (count ≡ alive_states (kind_of everywhere) (length u.now)) }
-    requires narrow { Narrow (length u.now) g.tags masks.now }
-    ensures { Filling g work.old work.new base count (afresh end (by_bits (kind_of everywhere) masks.now u.now place tag)) count }
-{
-    let mut alive = 0;
-    while alive < count {
-        write_alive_state(work, g, base, u, masks, place, tag, everywhere, end, alive);
-        alive += 1;
-    }
-}
-
-// All its states: how many they are.
+// The states of a rule with sets: how many they are.
 fn write_by_bits(
     work: &mut [u16],
     g: Grid,
@@ -278,21 +270,20 @@ fn write_by_bits(
 {
     let row = rule.row;
     let length = rule.length;
-    let count = count_alive(rule.everywhere, length);
+    let count = usize::from(count_alive(rule.everywhere, length));
     let masks = masks_of(&row[..length], &sets, rule.sets, g.tags);
-    write_alive_states(
-        work,
-        g,
-        base,
-        &row[..length],
-        &masks,
-        rule.place,
-        rule.tag,
-        rule.everywhere,
+    let pattern = Pattern {
+        tags: &row[..length],
+        place: rule.place,
+        tag: rule.tag,
         end,
-        count,
-    );
-    wide(count)
+    };
+    let states = Bits {
+        masks: &masks,
+        everywhere: rule.everywhere,
+    };
+    write_states(work, g, base, pattern, &states, count);
+    count
 }
 
 // The transducer of the rule with the sets of row i, which begins afresh after an end tag, to the rows from `base`: the number of its states.
@@ -311,7 +302,7 @@ pub fn write_rule(
     ensures { Ruled g work.old work.new base result end (rule_of rule (get_or sets.now i [])) }
 {
     if rule.sets == 0 {
-        return write_by_borders(work, g, base, rule, end);
+        return write_by_lengths(work, g, base, rule, end);
     }
     let row = sets[i];
     write_by_bits(work, g, base, rule, row, end)

@@ -4,33 +4,20 @@
 
 ghost use Rattle.std.specs.Prelude.{◌+◌, ◌≤◌, ◌<◌, ◌++◌, length};
 ghost use Rattle.workspace.specs.Entries.{OUTPUT, FINAL};
-ghost use Rattle.workspace.specs.Cells.{at, word, Sized, Written, part};
+ghost use Rattle.workspace.specs.Cells.{at, word, Sized, Written};
 ghost use Rattle.minimal.specs.Matcher.{held, said};
 ghost use Rattle.outputs.specs.Words.{Room};
 
-use words::{lesser, wide};
 use workspace::{FINAL, Grid, OUTPUT, clear, push};
 
-// The tags of u from one place up to another, after the word at s.
-fn push_part(
-    work: &mut [u16],
-    g: Grid,
-    r: usize,
-    c: usize,
-    s: usize,
-    u: &[u8],
-    from: usize,
-    to: usize,
-)
+// These tags after the word at s.
+fn push_all(work: &mut [u16], g: Grid, r: usize, c: usize, s: usize, tags: &[u8])
     requires sized { Sized g work.old }
-    requires r_lt_rows { (r < g.rows) × (c < g.tags + 1) × (s + at g work.old r c s + to < g.depth + from) }
-    requires from_le_to { (from ≤ to) × (to ≤ length u.now) }
-    ensures { Written g work.old work.new r c s (word g work.old r c s ++ part from to u.now) }
+    requires r_lt_rows { (r < g.rows) × (c < g.tags + 1) × (s + at g work.old r c s + length tags.now < g.depth) }
+    ensures { Written g work.old work.new r c s (word g work.old r c s ++ tags.now) }
 {
-    let mut i = from;
-    while i < to {
-        push(work, g, r, c, s, wide(u[i]));
-        i += 1;
+    for tag in tags {
+        push(work, g, r, c, s, usize::from(*tag));
     }
 }
 
@@ -57,15 +44,15 @@ pub fn write_output(
         return;
     }
     if next == u.len() {
-        push(work, g, r, a, OUTPUT, wide(tag));
-        push_part(work, g, r, a, OUTPUT, u, place + 1, u.len());
+        push(work, g, r, a, OUTPUT, usize::from(tag));
+        push_all(work, g, r, a, OUTPUT, &u[place + 1..]);
         return;
     }
     if place < next {
-        push_part(work, g, r, a, OUTPUT, u, place, place + (j + 1 - next));
+        push_all(work, g, r, a, OUTPUT, &u[place..place + (j + 1 - next)]);
         return;
     }
-    push_part(work, g, r, a, OUTPUT, u, lesser(place, j), j);
+    push_all(work, g, r, a, OUTPUT, &u[place.min(j)..j]);
     push(work, g, r, a, OUTPUT, a);
 }
 
@@ -79,5 +66,5 @@ pub fn write_final(work: &mut [u16], g: Grid, r: usize, u: &[u8], place: usize, 
     if j == u.len() {
         return;
     }
-    push_part(work, g, r, g.tags, FINAL, u, lesser(place, j), j);
+    push_all(work, g, r, g.tags, FINAL, &u[place.min(j)..j]);
 }

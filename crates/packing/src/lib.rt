@@ -2,10 +2,10 @@
 #![tactic(auto)]
 
 ghost use Rattle.std.specs.Prelude.{◌≡◌, ◌+◌, ◌*◌, ◌^◌, ◌<◌};
-ghost use Rattle.answers.specs.Answer.{refusal, run_outcome, write_outcome, compile_outcome};
+ghost use Rattle.answers.specs.Answer.{refusal, outcome_of};
 ghost use Rattle.packing.specs.Packed.{packed, packed_byte, Legible, LegibleByte};
 
-use answers::{CompileAnswer, Refusal, RunAnswer, WriteAnswer};
+use answers::Refusal;
 
 // A number above a refusal, 0 for none.
 pub fn pack(upper: usize, number: u8) -> u64
@@ -20,9 +20,8 @@ pub fn pack_refusal(given: Refusal) -> u64
     ensures { result ≡ packed (refusal given) }
 {
     match given {
-        Refusal::AtByte { number, .. } => pack(0, number),
-        Refusal::AtRule { number, rule } => pack(rule, number),
-        Refusal::Bare { number } => pack(0, number),
+        Refusal::AtRule(reason, rule) => pack(rule, reason.into()),
+        Refusal::AtByte(reason, _) | Refusal::Bare(reason) => pack(0, reason.into()),
     }
 }
 
@@ -32,41 +31,18 @@ pub fn pack_byte(given: Refusal) -> u64
     ensures { result ≡ packed_byte (refusal given) }
 {
     match given {
-        Refusal::AtByte { number, byte } => pack(byte, number),
-        Refusal::AtRule { number, .. } => pack(0, number),
-        Refusal::Bare { number } => pack(0, number),
+        Refusal::AtByte(reason, byte) => pack(byte, reason.into()),
+        Refusal::AtRule(reason, _) | Refusal::Bare(reason) => pack(0, reason.into()),
     }
 }
 
-// Of a run.
-pub fn pack_run(answer: RunAnswer) -> u64
-    requires { Legible (run_outcome answer) }
-    ensures { result ≡ packed (run_outcome answer) }
+// Of a call that answers how many tags changed or were put out, or how many numbers were written.
+pub fn pack_answer(answer: Result<usize, Refusal>) -> u64
+    requires { Legible (outcome_of answer) }
+    ensures { result ≡ packed (outcome_of answer) }
 {
     match answer {
-        RunAnswer::Changed(count) => pack(count, 0),
-        RunAnswer::Refused(given) => pack_refusal(given),
-    }
-}
-
-// Of loading a table and of typing.
-pub fn pack_written(answer: WriteAnswer) -> u64
-    requires { Legible (write_outcome answer) }
-    ensures { result ≡ packed (write_outcome answer) }
-{
-    match answer {
-        WriteAnswer::Written(count) => pack(count, 0),
-        WriteAnswer::Refused(given) => pack_refusal(given),
-    }
-}
-
-// Of compile.
-pub fn pack_compile(answer: CompileAnswer) -> u64
-    requires { Legible (compile_outcome answer) }
-    ensures { result ≡ packed (compile_outcome answer) }
-{
-    match answer {
-        CompileAnswer::Table(size) => pack(size, 0),
-        CompileAnswer::Refused(given) => pack_refusal(given),
+        Ok(count) => pack(count, 0),
+        Err(given) => pack_refusal(given),
     }
 }

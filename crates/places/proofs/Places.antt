@@ -1,18 +1,18 @@
 -- The search, place by place and many places at once.
 use Prim.Native.Nat.{ℕ, ◌+◌, ◌-◌, ◌≤◌, ◌<◌, min}
 use native.Mathlib.Omega.{arith}
-use native.Mathlib.Decide.{ℕ_discrete, dec_lt}
+use native.Mathlib.Decide.{dec_lt}
 use mathlib.Core.Path.{◌≡◌, refl, sym, ap, ◌∙◌, subst}
-use mathlib.Core.Bool.{Bool, true, false}
+use mathlib.Core.Bool.{Bool, true, false, false≢true, ◌&&◌, ◌||◌}
 use mathlib.Core.List.{List, [], ◌∷◌}
 use lib.ListN.{length, drop, get_or, get_or-append}
 use lib.Dec.{eqb}
-use lib.Seq.{get_or-drop, drop-length}
+use lib.Seq.{get_or-drop}
+use native.Mathlib.Nat.{add-zero}
+use borrow.Author.Tests.{eq-eqb}
 use Rattle.words.specs.Word.{prefix}
-use Rattle.words.proofs.Word.{prefix-split, prefix-next, prefix-stops}
-use Rattle.places.specs.declared.Occurrence.{Occurrence}
-use Rattle.places.specs.declared.Occurrence.TheVariants.{At, Nowhere}
-use Rattle.places.specs.Places.{All, Free, LeastWithin, FoundWithin}
+use Rattle.words.proofs.Word.{prefix-split}
+use Rattle.places.specs.Places.{All, Free}
 
 -- ---- the test at a place
 
@@ -24,25 +24,6 @@ prefix-short (a ∷ u) (b ∷ w) h = test (eqb a b) (prefix-short u w (omega ari
     test : (t : Bool) → prefix u w ≡ false → elim t [ true ↦ prefix u w | false ↦ false ] ≡ false
     test true e = e
     test false e = refl
-
-module _ (u s : List ℕ) (i j : ℕ) (h : j < length u) (k : j + i < length s) where
-  pub same_next : get_or s (j + i) 0 ≡ get_or u j 0 → prefix (drop j u) (drop (j + i) s) ≡ prefix (drop (j + 1) u) (drop (j + 1 + i) s)
-  same_next e =
-      let n : j + i + 1 ≡ j + 1 + i = omega arith in
-      prefix-next u s j (j + i) h k (sym e) ∙ ap (λ (m : ℕ). prefix (drop (j + 1) u) (drop m s)) n
-
-  pub other-next : (get_or s (j + i) 0 ≡ get_or u j 0 → ⊥) → prefix (drop j u) (drop (j + i) s) ≡ false
-  other-next e = prefix-stops u s j (j + i) h k (λ q. e (sym q))
-
--- all tags passed
-pub all_same : (u s : List ℕ) (i j : ℕ) → j ≡ length u → true ≡ prefix (drop j u) (drop (j + i) s)
-all_same u s i j e = let d : drop j u ≡ [] = rw e (drop-length u) in cc
-
--- the first tag alone
-pub first-other : (u s : List ℕ) (i : ℕ) → 0 < length u → i < length s → (get_or s i 0 ≡ get_or u 0 0 → ⊥) → prefix u (drop i s) ≡ false
-first-other u s i h k e =
-    let n : 0 + i ≡ i = omega arith in
-    subst (λ (m : ℕ). prefix u (drop m s) ≡ false) n (other-next u s i 0 h (omega arith) (λ q. e (subst (λ (m : ℕ). get_or s m 0 ≡ get_or u 0 0) n q)))
 
 -- ---- places one by one
 
@@ -87,54 +68,30 @@ module _ (u s : List ℕ) where
       by true e = absurd (d (tag-there i j h e))
       by false e = e
 
-  -- of two of its tags, or of three, one does not; p, q and r are 1 where they do
-  module _ (i : ℕ) where
-    -- the tag j of u at the place a
-    pub record Seen (a j p : ℕ) : Type 0 where
-      pub place : a ≡ i + j
-      pub inside : j < length u
-      pub told : get_or s a 0 ≡ get_or u j 0 → p ≡ 1
+  -- the first one
+  pub first-other : (i : ℕ) → 0 < length u → (get_or s i 0 ≡ get_or u 0 0 → ⊥) → prefix u (drop i s) ≡ false
+  first-other i h d = tag-other i 0 h (λ e. d (rw add-zero at e))
 
-    unseen : (a j p : ℕ) → Seen a j p → (p ≡ 1 → ⊥) → prefix u (drop i s) ≡ false
-    unseen a j p f n = tag-other i j f.inside (λ e. n (f.told (subst (λ (m : ℕ). get_or s m 0 ≡ get_or u j 0) (sym f.place) e)))
+  -- one place more of those that are looked at at once: not all of its first, its last and, where they look closer, its second tag stand there
+  module _ (a j w v : ℕ) (hw : w < length u) (hv : v < length u) (wide : Bool) where
+    abbrev Seen : Bool
+    Seen =
+        eqb (get_or s (a + j) 0) (get_or u 0 0) && eqb (get_or s (a + j + w) 0) (get_or u w 0) && (wide || eqb (get_or s (a + j + v) 0) (get_or u v 0))
 
-    pub two_other : (a b j k p q : ℕ) → Seen a j p → Seen b k q → (p + q ≡ 2 → ⊥) → prefix u (drop i s) ≡ false
-    two_other a b j k p q f g n = by (ℕ_discrete p 1)
+    -- where u begins, they do
+    seen : prefix u (drop (a + j) s) ≡ true → Seen ≡ true
+    seen e =
+        all (eq-eqb _ _ (rw add-zero at (tag-there (a + j) 0 (omega arith) e)))
+        (eq-eqb _ _ (tag-there (a + j) w hw e)) (eq-eqb _ _ (tag-there (a + j) v hv e)) wide
       where
-        by : Dec (p ≡ 1) → prefix u (drop i s) ≡ false
-        by (yes e) = unseen b k q g (λ d. n (omega arith))
-        by (no e) = unseen a j p f e
+        all : {x y z : Bool} → x ≡ true → y ≡ true → z ≡ true → (b : Bool) → (x && y && (b || z)) ≡ true
+        all f g h true = cc
+        all f g h false = cc
 
-    pub three_other : (a b c j k l p q r : ℕ) → Seen a j p → Seen b k q → Seen c l r → (p + q + r ≡ 3 → ⊥) → prefix u (drop i s) ≡ false
-    three_other a b c j k l p q r f g h n = by (ℕ_discrete r 1)
+    pub may_more : (may : Bool) → (may ≡ false → Free u s a (a + j)) → (may || Seen) ≡ false → Free u s a (a + (j + 1))
+    may_more true f e = absurd (false≢true (sym e))
+    may_more false f e = let n : a + j + 1 ≡ a + (j + 1) = omega arith in subst (Free u s a) n (all_more _ a (a + j) (f refl) (by (prefix u (drop (a + j) s)) refl))
       where
-        by : Dec (r ≡ 1) → prefix u (drop i s) ≡ false
-        by (yes e) = two_other a b j k p q f g (λ d. n (omega arith))
-        by (no e) = unseen c l r h e
-
-  -- one place more of those that are looked at at once
-  pub may_more : (a j : ℕ) → Free u s a (a + j) → prefix u (drop (a + j) s) ≡ false → Free u s a (a + (j + 1))
-  may_more a j f e = let n : a + j + 1 ≡ a + (j + 1) = omega arith in subst (Free u s a) n (all_more _ a (a + j) f e)
-
-  -- at four places more the first tag does not stand
-  pub free_four : (a i : ℕ) → 0 < length u → i + 4 ≤ length s → Free u s a i → (get_or s i 0 ≡ get_or u 0 0 → ⊥) → (get_or s (i + 1) 0 ≡ get_or u 0 0 → ⊥)
-      → (get_or s (i + 2) 0 ≡ get_or u 0 0 → ⊥) → (get_or s (i + 3) 0 ≡ get_or u 0 0 → ⊥) → Free u s a (i + 4)
-  free_four a i h r f w x y z =
-      let next : (j : ℕ) → j < length s → (get_or s j 0 ≡ get_or u 0 0 → ⊥) → Free u s a j → Free u s a (j + 1) =
-      λ j l d g. all_more _ a j g (first-other u s j h l d) in
-      let two : i + 1 + 1 ≡ i + 2 = omega arith in
-      let three : i + 2 + 1 ≡ i + 3 = omega arith in
-      let four : i + 3 + 1 ≡ i + 4 = omega arith in
-      subst (Free u s a) four (next (i + 3) (omega arith) z
-      (subst (Free u s a) three (next (i + 2) (omega arith) y
-      (subst (Free u s a) two (next (i + 1) (omega arith) x (next i (omega arith) w f))))))
-
-  -- what is found from a on is found from c on, if u does not begin before a
-  module _ (c a : ℕ) (h : c ≤ a) (f : Free u s c a) where
-    pub least_then : (b d i : ℕ) → b ≤ d → LeastWithin u s a b i → LeastWithin u s c d i
-    least_then b d i l g =
-        record { after = omega (arith, g.after); inside = omega (arith, g.inside); here = g.here; passed = all_then _ c a i f g.passed }
-
-    pub found_then : (b : ℕ) (r : Occurrence) → FoundWithin u s a b r → FoundWithin u s c b r
-    found_then b (At i) g = least_then b b i (omega arith) g
-    found_then b Nowhere g = all_then _ c a b f g
+        by : (b : Bool) → prefix u (drop (a + j) s) ≡ b → prefix u (drop (a + j) s) ≡ false
+        by true h = absurd (false≢true (sym e ∙ seen h))
+        by false h = h

@@ -1,8 +1,6 @@
 -- Where a pattern begins among some places of a sentence.
-use Rattle.std.specs.Prelude.{ℕ, ◌+◌, ◌≤◌, ◌<◌, ◌≡◌, true, false, List, length, drop}
+use Rattle.std.specs.Prelude.{ℕ, ◌+◌, ◌≤◌, ◌<◌, ◌≡◌, true, false, List, length, drop, Option, Some, None}
 use Rattle.words.specs.Word.{prefix}
-use Rattle.places.specs.declared.Occurrence.{Occurrence}
-use Rattle.places.specs.declared.Occurrence.TheVariants.{At, Nowhere}
 
 -- u, which is not empty, has room at every place from a up to b
 pub record Places (u s : List ℕ) (a b : ℕ) : Type 0 where
@@ -25,6 +23,7 @@ pub record LeastWithin (u s : List ℕ) (a b i : ℕ) : Type 0 where
   pub here : prefix u (drop i s) ≡ true
   pub passed : Free u s a i
 
-abbrev pub FoundWithin : List ℕ → List ℕ → ℕ → ℕ → Occurrence → Type 0
-FoundWithin u s a b (At i) = LeastWithin u s a b i
-FoundWithin u s a b Nowhere = Free u s a b
+-- the least such place, or none
+abbrev pub FoundWithin : List ℕ → List ℕ → ℕ → ℕ → Option ℕ → Type 0
+FoundWithin u s a b (Some i) = LeastWithin u s a b i
+FoundWithin u s a b None = Free u s a b

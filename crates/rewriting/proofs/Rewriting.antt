@@ -1,7 +1,7 @@
 -- A rule in the part of a sentence that lies behind its matches so far, and the numbers beside the sentence.
 use Prim.Native.Nat.{ℕ, zero, suc, ◌+◌, ◌-◌, ◌≤◌, ◌<◌}
 use native.Mathlib.Omega.{arith}
-use mathlib.Core.Path.{◌≡◌, sym, ap, ◌∙◌}
+use mathlib.Core.Path.{◌≡◌, sym, ap, ◌∙◌, subst}
 use mathlib.Core.Bool.{Bool, true, false, not, false≢true}
 use mathlib.Core.List.{List, []}
 use lib.ListN.{length, take, drop, get_or, set, length-drop}
@@ -18,8 +18,7 @@ use Rattle.cascades.proofs.Pattern.{plain-pattern, fits-plain, fits-length, fits
 use Rattle.cascades.proofs.Ending.{match-at}
 use Rattle.cascades.specs.Rewrite.{behind, apply}
 use Rattle.cascades.proofs.Rewrite.{begun_other, begun_short, begun_match}
-use Rattle.places.specs.declared.Occurrence.{Occurrence}
-use Rattle.places.specs.declared.Occurrence.TheVariants.{At, Nowhere}
+use Rattle.std.specs.Prelude.{Option, Some, None}
 use Rattle.leftmost.specs.Leftmost.{Found}
 use Rattle.leftmost.proofs.Leftmost.{place_is}
 use Rattle.traces.specs.Note.{note}
@@ -48,7 +47,7 @@ module _ (r : Rule) (changes : Changes r) (s₀ s : List ℕ) (from : ℕ) (done
       let e : from + suc d ≡ from + d + 1 = omega arith in
       rw e (begun_other r s₀ s (from + d) (passed-places d (omega arith) (λ i l. f i (omega arith))) (omega arith) (sym (place_is (fits u) s from d) ∙ f d (omega arith)))
 
-  module _ (i : ℕ) (f : Found (fits u) (drop from s) (At i)) where
+  module _ (i : ℕ) (f : Found (fits u) (drop from s) (Some i)) where
     here : fits u (drop (from + i) s) ≡ true
     here = sym (place_is (fits u) s from i) ∙ f.here
 
@@ -89,12 +88,12 @@ module _ (r : Rule) (changes : Changes r) (s₀ s : List ℕ) (from : ℕ) (done
             ∙ match-at u (take (length u) (drop (from + i) s)) p (fits-match u (drop (from + i) s) here) changes.fixed
 
   -- it has none
-  pub none-behind : Found (fits u) (drop from s) Nowhere → s ≡ apply r s₀
+  pub none-behind : Found (fits u) (drop from s) None → s ≡ apply r s₀
   none-behind f =
       let e : from + (length s - from) ≡ length s = omega (arith, done.inside) in
       begun_short r s₀ s (from + (length s - from)) (passed-places (length s - from) (omega arith) (λ i l. f i)) (omega (arith, changes.inside))
 
--- behind a match of a rule that fires once the sentence is what it is, of one that fires everywhere the rewriting goes on
+-- behind a match the sentence is x up to n: a rule that fires once is done, and one that fires everywhere goes on
 module _ (u : List Class) (p t : ℕ) (s₀ x : List ℕ) (n : ℕ) where
   abbrev Matched : Bool → Type 0
   Matched b = Begun (apply (rule_with (kind_of b) u p t)) (behind (kind_of b) (apply (rule_with (kind_of b) u p t))) s₀ x x n
@@ -107,10 +106,29 @@ module _ (u : List Class) (p t : ℕ) (s₀ x : List ℕ) (n : ℕ) where
   fires_again true e m = m
   fires_again false e m = absurd (false≢true (sym e))
 
+-- behind a match of a rule that fires once the sentence is what it is, of one that fires everywhere the rewriting goes on
+module _ (u : List Class) (p t : ℕ) (b : Bool) (changes : Changes (rule_with (kind_of b) u p t)) (s₀ s : List ℕ) (from : ℕ)
+    (done : Going (rule_with (kind_of b) u p t) s₀ s from) (i : ℕ) (found : Found (fits u) (drop from s) (Some i)) where
+  abbrev next : List ℕ
+  next = set s (from + i + p) t
+
+  pub fired_next : b ≡ false → next ≡ apply (rule_with (kind_of b) u p t) s₀
+  fired_next e = fired-once u p t s₀ next (from + i + length u) b (ap not e) (match-behind (rule_with (kind_of b) u p t) changes s₀ s from done i found)
+
+  -- the number has been put too
+  pub again_noted : b ≡ true → (x : ℕ) (v₀ v w : List ℕ) → w ≡ set v (from + i + p) x → Noted x s₀ v₀ s v from → (n : ℕ) → n ≡ length u
+      → Going (rule_with (kind_of b) u p t) s₀ next (from + (i + n)) × Noted x s₀ v₀ next w (from + (i + n))
+  again_noted e x v₀ v w put noted n is =
+      let m : from + i + length u ≡ from + (i + n) = omega arith in
+      let after = match-noted (rule_with (kind_of b) u p t) changes s₀ s from done i found x v₀ v noted in (
+        subst (Going (rule_with (kind_of b) u p t) s₀ next) m (fires_again u p t s₀ next (from + i + length u) b (ap not e) (match-behind (rule_with (kind_of b) u p t) changes s₀ s from done i found)),
+        record { numbers = put ∙ after.numbers; rest = subst (λ (k : ℕ). drop k next ≡ drop k s₀) m after.rest },
+      )
+
 -- without sets the search is that for a word
-pub found_plain : (u s : List ℕ) (r : Occurrence) → Found (prefix u) s r → Found (fits (plain u)) s r
-found_plain u s (At i) f = record { here = fits-plain u (drop i s) ∙ f.here; least = λ j l. fits-plain u (drop j s) ∙ f.least j l }
-found_plain u s Nowhere f = λ i. fits-plain u (drop i s) ∙ f i
+pub found_plain : (u s : List ℕ) (r : Option ℕ) → Found (prefix u) s r → Found (fits (plain u)) s r
+found_plain u s (Some i) f = record { here = fits-plain u (drop i s) ∙ f.here; least = λ j l. fits-plain u (drop j s) ∙ f.least j l }
+found_plain u s None f = λ i. fits-plain u (drop i s) ∙ f i
 
 -- a rule without a row of sets
 pub of_tags : (v : Value) → Formed v [] → rule_of v [] ≡ rule (kind_of v.everywhere) (take v.length v.row) v.place v.tag

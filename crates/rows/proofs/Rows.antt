@@ -1,9 +1,9 @@
 -- Steps and rows one after the other: what is left to write makes up the whole.
 use Prim.Native.Nat.{ℕ, suc, ◌+◌, ◌*◌, ◌≤◌, ◌<◌}
 use native.Mathlib.Omega.{arith}
-use mathlib.Core.Path.{◌≡◌, refl, sym, ap, ap₂, ◌∙◌}
-use mathlib.Core.List.{List, [], ◌∷◌, ◌++◌}
-use lib.ListN.{length, drop, get_or, set, length-append, drop_of_length-le}
+use mathlib.Core.Path.{◌≡◌, sym, ap, ap₂, ◌∙◌}
+use mathlib.Core.List.{List, ◌∷◌, ◌++◌}
+use lib.ListN.{length, drop, get_or, set, length-append}
 use lib.Seq.{sets}
 use Rattle.words.proofs.Word.{drop-step}
 use Rattle.words.proofs.Regions.{sets_more, set-sets}
@@ -21,20 +21,7 @@ pub record StepsGoing (ss : List Step) (k rested place₀ p : ℕ) (b₀ b : Lis
       → sets (sets b₀ place₀ (steps_behind ss)) p (step_numbers k rest place₀ ss) ≡ sets (sets b place (steps_behind (drop a ss))) (p + 2 * a) (step_numbers k rest place (drop a ss))
 
 module _ (ss : List Step) (k rested place₀ p : ℕ) (b₀ : List ℕ) where
-  pub steps-start : StepsGoing ss k rested place₀ p b₀ b₀ 0 place₀
-  steps-start =
-      let e : p ≡ p + 2 * 0 = omega arith in
-      record { later = omega arith; place_is = refl; wrote = λ rest r. ap (λ (i : ℕ). sets (sets b₀ place₀ (steps_behind ss)) i (step_numbers k rest place₀ ss)) e }
-
   module _ (b : List ℕ) (a place : ℕ) (g : StepsGoing ss k rested place₀ p b₀ b a place) where
-    pub steps-end : length ss ≤ a → StepsWritten ss k rested place₀ b₀ b p place
-    steps-end h =
-        let none : drop a ss ≡ [] = drop_of_length-le ss h in
-        record {
-          place_is = omega (arith, g.place_is, ap (λ (l : List Step). length (steps_behind l)) none);
-          wrote = λ rest r. sym (g.wrote rest r ∙ ap (λ (l : List Step). sets (sets b place (steps_behind l)) (p + 2 * a) (step_numbers k rest place l)) none);
-        }
-
     module _ (h : a < length ss) where
       abbrev s : Step
       s = get_or ss a no_step

@@ -1,16 +1,13 @@
 -- The entry of a step: how many tags are put out, and where they stand.
 use Prim.Native.Nat.{ℕ}
 use native.Mathlib.Omega.{arith}
-use mathlib.Core.Path.{◌≡◌, ◌∙◌}
+use mathlib.Core.Path.{◌≡◌}
 use mathlib.Core.List.{List}
 use lib.ListN.{length}
 use Rattle.transducers.specs.Table.{Step}
-use Rattle.steps.specs.Entry.{count_of, place_of, TagsAt}
+use Rattle.steps.specs.Entry.{count_of}
 use Rattle.rows.specs.Parts.{StepIs}
 
 module _ (bs : List ℕ) (k : ℕ) (s : Step) (e : ℕ) (is : StepIs bs k s e) where
   pub step_count : count_of e ≡ length s.output
   step_count = omega (arith, is.entry.count_is, is.short)
-
-  pub step-tags : (count_of e ≡ 1 → ⊥) → TagsAt bs (place_of e) s.output
-  step-tags other = is.entry.stands (λ z. other (step_count ∙ z))

@@ -3,7 +3,7 @@ use Prim.Native.Nat.{ℕ, ◌+◌, ◌*◌, ◌≤◌, ◌<◌}
 use native.Mathlib.Omega.{arith}
 use native.Mathlib.Nat.{suc-mul, mul-le-mul}
 use native.Mathlib.Numerals.{add-one}
-use mathlib.Core.Path.{◌≡◌, refl, sym, ap, ap₂, ◌∙◌, subst}
+use mathlib.Core.Path.{◌≡◌, sym, ap, ap₂, ◌∙◌, subst}
 use mathlib.Core.List.{List, [], ◌∷◌, ◌++◌}
 use lib.ListN.{length, drop, get_or, length-append, drop_of_length-le}
 use lib.Seq.{sets}
@@ -33,9 +33,6 @@ source_tags x = omega (arith, x.valid.tags_most, x.ranged.few_tags)
 module _ (bs ix : List ℕ) (k s room rested : ℕ) (x : Source bs ix k s room) (b₀ : List ℕ) where
   abbrev t : Table
   t = x.table
-
-  pub rows_start : RowsGoing t k s rested b₀ b₀ 0 (row_at k s) 1
-  rows_start = record { later = omega arith; place_is = refl; wrote = λ rest r. refl }
 
   module _ (b : List ℕ) (q place p : ℕ) (g : RowsGoing t k s rested b₀ b q place p) where
     pub rows_end : s ≤ q → RowsWritten t k s rested b₀ b place

@@ -6,6 +6,7 @@ use mathlib.Core.Bool.{Bool, true, false, not}
 use mathlib.Core.List.{List, ◌++◌}
 use lib.ListN.{length, take, drop}
 use lib.Seq.{take-append_seam, drop-append_seam, take_at, length-take-le}
+use Rattle.std.specs.Prelude.{Result, Ok, Err}
 use Rattle.words.specs.Word.{differences}
 use Rattle.answers.specs.Outcome.{Outcome, result, refused, nothing, and_then, provided}
 use Rattle.answers.specs.Slice.{written}
@@ -15,7 +16,6 @@ use Rattle.sentences.specs.Run.{run}
 use Rattle.sentences.proofs.Run.{ran-refused}
 use Rattle.sentences.specs.Parts.{Wrote}
 use Rattle.sentences.specs.Admission.{admission}
-use Rattle.sentences.specs.declared.Admission.{Admission}
 use Rattle.cascades.specs.Rule.{Cascade, ending}
 use Rattle.cascades.specs.Ending.{bad_end}
 use Rattle.running.specs.Rules.{running}
@@ -65,12 +65,12 @@ module _ (f : Cascade → List ℕ → List ℕ) (e : ℕ) (c : Cascade) (s : Li
   pub run_fits : b ≡ false → run c.tags s room (f (ending e c) s) ≡ running f e c s room
   run_fits h = ap told (sym h ∙ is)
 
-module _ (r : Admission) (o : Outcome (List ℕ)) (made : List ℕ) (e : admission r made ≡ o) where
-  pub run-refused : (x : Refusal) → r ≡ Admission.Refused x → refusal x ≡ o
+module _ (r : Result (Unit {0}) Refusal) (o : Outcome (List ℕ)) (made : List ℕ) (e : admission r made ≡ o) where
+  pub run-refused : (x : Refusal) → r ≡ Err x → refusal x ≡ o
   run-refused x f = cc
 
-  pub run-admitted : r ≡ Admission.Admitted → result made ≡ o
-  run-admitted f = cc
+  pub run-admitted : (u : Unit {0}) → r ≡ Ok u → result made ≡ o
+  run-admitted u f = cc
 
 -- the numbers' slice
 pub numbers-kept : (outcome : Outcome (List ℕ)) (x : Refusal) (v : List ℕ) → refusal x ≡ outcome → v ≡ written outcome v

@@ -15,39 +15,26 @@ ghost use Rattle.sentences.specs.Run.{run, Ran};
 ghost use Rattle.sentences.specs.Parts.{Wrote};
 ghost use Rattle.running.specs.Rules.{cascade_run, cascade_numbers};
 
-use answers::{Refusal, RunAnswer};
-use books::HEAD;
-use limits::{PATTERN, RULES};
-use sentences::Admission;
-use words::lesser;
+use answers::{Reason, Refusal};
+use books::Rules;
+use limits::PATTERN;
 
 // The sentence to the front of `out`, and the first m rules of the arrays, which have no sets, applied there: the number of changed tags.
 fn write_rules(
     sentence: &[u8],
     out: &mut [u8],
     m: usize,
-    rows: &[[u8; PATTERN]; RULES],
-    lengths: &[usize; RULES],
-    heads: &[[u8; HEAD]; RULES],
+    rules: &Rules,
     sets: &[[u64; PATTERN]],
 ) -> usize
-    requires usable { Usable m (arrays rows lengths heads sets.now) × (length sets.now ≡ 0) }
+    requires usable { Usable m (arrays rules.now sets.now) × (length sets.now ≡ 0) }
     requires sentence_in_bounds { length sentence.now ≤ length out.old }
-    ensures { Wrote (apply_all (rules_of (arrays rows.entry lengths.entry heads.entry sets.now) m) sentence.now) sentence.now out.old out.new result }
+    ensures { Wrote (apply_all (rules_of (arrays rules.now sets.now) m) sentence.now) sentence.now out.old out.new result }
 {
     let mut none = [0u8; 0];
     let n = sentence.len();
     sentences::copy(sentence, out);
-    application::apply_tags(
-        &mut out[..n],
-        &mut none[..],
-        rows,
-        lengths,
-        heads,
-        sets,
-        0,
-        m,
-    );
+    application::apply_tags(&mut out[..n], &mut none[..], rules, sets, 0, m);
     sentences::count_changes(sentence, &out[..n])
 }
 
@@ -58,29 +45,18 @@ fn write_pieces(
     v: &mut [u8],
     end: u8,
     m: usize,
-    rows: &[[u8; PATTERN]; RULES],
-    lengths: &[usize; RULES],
-    heads: &[[u8; HEAD]; RULES],
+    rules: &Rules,
     sets: &[[u64; PATTERN]],
 ) -> usize
-    requires usable { Usable m (arrays rows lengths heads sets.now) }
+    requires usable { Usable m (arrays rules.now sets.now) }
     requires below { Below no_end sentence.now × (length sentence.now ≤ length out.old) }
-    ensures out { Wrote (piecewise end (apply_all (rules_of (arrays rows.entry lengths.entry heads.entry sets.now) m)) sentence.now) sentence.now out.old out.new result }
-    ensures v { length sentence.now ≤ length v.old → v.new ≡ piecewise end (numbers_of (rules_of (arrays rows.entry lengths.entry heads.entry sets.now) m)) sentence.now ++ drop (length sentence.now) v.old }
+    ensures out { Wrote (piecewise end (apply_all (rules_of (arrays rules.now sets.now) m)) sentence.now) sentence.now out.old out.new result }
+    ensures v { length sentence.now ≤ length v.old → v.new ≡ piecewise end (numbers_of (rules_of (arrays rules.now sets.now) m)) sentence.now ++ drop (length sentence.now) v.old }
 {
     let n = sentence.len();
-    let noted = lesser(n, v.len());
+    let noted = n.min(v.len());
     sentences::copy(sentence, out);
-    application::apply_book(
-        &mut out[..n],
-        &mut v[..noted],
-        end,
-        rows,
-        lengths,
-        heads,
-        sets,
-        m,
-    );
+    application::apply_book(&mut out[..n], &mut v[..noted], end, rules, sets, m);
     sentences::count_changes(sentence, &out[..n])
 }
 
@@ -90,20 +66,14 @@ pub fn run_rules(
     out: &mut [u8],
     k: u8,
     m: usize,
-    rows: &[[u8; PATTERN]; RULES],
-    lengths: &[usize; RULES],
-    heads: &[[u8; HEAD]; RULES],
+    rules: &Rules,
     sets: &[[u64; PATTERN]],
-) -> RunAnswer
-    requires { Usable m (arrays rows lengths heads sets.now) × (length sets.now ≡ 0) }
-    ensures { Ran (run k sentence.now (length out.old) (apply_all (rules_of (arrays rows.entry lengths.entry heads.entry sets.now) m) sentence.now)) sentence.now out.old out.new result }
+) -> Result<usize, Refusal>
+    requires { Usable m (arrays rules.now sets.now) × (length sets.now ≡ 0) }
+    ensures { Ran (run k sentence.now (length out.old) (apply_all (rules_of (arrays rules.now sets.now) m) sentence.now)) sentence.now out.old out.new result }
 {
-    let admission = sentences::admit(sentence, k, out.len());
-    if let Admission::Refused(refusal) = admission {
-        return RunAnswer::Refused(refusal);
-    }
-    let changes = write_rules(sentence, out, m, rows, lengths, heads, sets);
-    RunAnswer::Changed(changes)
+    sentences::admit(sentence, k, out.len())?;
+    Ok(write_rules(sentence, out, m, rules, sets))
 }
 
 // Runs them over each piece, where the slices that get a result have at least `room` bytes: 14, then 13, 4 and 11.
@@ -115,23 +85,17 @@ pub fn run_pieces(
     k: u8,
     end: u8,
     m: usize,
-    rows: &[[u8; PATTERN]; RULES],
-    lengths: &[usize; RULES],
-    heads: &[[u8; HEAD]; RULES],
+    rules: &Rules,
     sets: &[[u64; PATTERN]],
-) -> RunAnswer
-    requires usable { Usable m (arrays rows lengths heads sets.now) }
+) -> Result<usize, Refusal>
+    requires usable { Usable m (arrays rules.now sets.now) }
     requires k_le_no_end { (k ≤ no_end) × (room ≤ length out.old) }
-    ensures out { Ran (cascade_run end (cascade_of k (arrays rows.entry lengths.entry heads.entry sets.now) m) sentence.now room) sentence.now out.old out.new result }
-    ensures v { room ≤ length v.old → v.new ≡ written (cascade_numbers end (cascade_of k (arrays rows.entry lengths.entry heads.entry sets.now) m) sentence.now room) v.old }
+    ensures out { Ran (cascade_run end (cascade_of k (arrays rules.now sets.now) m) sentence.now room) sentence.now out.old out.new result }
+    ensures v { room ≤ length v.old → v.new ≡ written (cascade_numbers end (cascade_of k (arrays rules.now sets.now) m) sentence.now room) v.old }
 {
-    if endings::bad_end(k, rows, lengths, heads, sets, m, end) {
-        return RunAnswer::Refused(Refusal::Bare { number: 14 });
+    if endings::bad_end(k, rules, sets, m, end) {
+        return Err(Refusal::Bare(Reason::BadEnd));
     }
-    let admitted = sentences::admit(sentence, k, room);
-    if let Admission::Refused(refusal) = admitted {
-        return RunAnswer::Refused(refusal);
-    }
-    let changed = write_pieces(sentence, out, v, end, m, rows, lengths, heads, sets);
-    RunAnswer::Changed(changed)
+    sentences::admit(sentence, k, room)?;
+    Ok(write_pieces(sentence, out, v, end, m, rules, sets))
 }

@@ -1,26 +1,24 @@
 -- The run of a sentence: one more tag, for the loops that go through it; the cases of its refusals; how runs end.
 use Prim.Native.Nat.{ℕ, suc, ◌+◌, ◌<◌, ◌≤◌, max}
 use native.Mathlib.Numerals.{add-one}
-use native.Mathlib.Nat.{zero-add}
 use native.Mathlib.Omega.{arith}
-use mathlib.Core.Path.{◌≡◌, refl, sym, ap, ◌∙◌, subst}
+use mathlib.Core.Path.{◌≡◌, refl, sym, ap, ◌∙◌}
 use mathlib.Core.Bool.{Bool, true, false}
-use mathlib.Core.List.{List, [], ◌∷◌, ◌++◌}
+use mathlib.Core.List.{List, [], ◌∷◌}
 use borrow.Author.Tests.{eq-eqb, ne_eqb, le-leb, lt-leb, lt-ltb, le-ltb, leb-true, ltb-true}
 use lib.Dec.{leb, ltb}
-use lib.ListN.{length, drop, get_or, set}
-use lib.Seq.{drop-cons, paste, paste-suc, take-length}
+use lib.ListN.{length, drop, get_or}
+use lib.Seq.{drop-cons}
 use Rattle.words.specs.Word.{Below, differences}
 use Rattle.limits.specs.Limits.{longest_sentence}
 use Rattle.answers.specs.Outcome.{Outcome, result, refused, nothing, and_then, provided}
-use Rattle.answers.specs.Answer.{refusal}
+use Rattle.answers.specs.Answer.{refusal, outcome_of}
 use Rattle.answers.specs.declared.Refusal.{Refusal}
 use Rattle.answers.specs.declared.Refusal.TheVariants.{AtByte, AtRule, Bare}
-use Rattle.answers.specs.declared.RunAnswer.TheVariants.{Changed, Refused}
+use Rattle.std.specs.Prelude.{Result, Ok, Err}
 use Rattle.answers.proofs.Outcome.{refusal_then}
 use Rattle.sentences.specs.Run.{highest, admitted, run, Accepted, Ran}
-use Rattle.sentences.specs.Admission.{admission_outcome, admission}
-use Rattle.sentences.specs.declared.Admission.{Admission}
+use Rattle.sentences.specs.Admission.{admission}
 use Rattle.sentences.specs.Parts.{Wrote}
 
 pub highest-next : (s : List ℕ) (i : ℕ) → i < length s → highest (drop i s) ≡ max (get_or s i 0) (highest (drop (i + 1) s))
@@ -39,17 +37,6 @@ module _ (s t : List ℕ) (i : ℕ) (h : i < length s) (k : i < length t) where
   pub other-next : (get_or s i 0 ≡ get_or t i 0 → ⊥) → differences (drop i s) (drop i t) ≡ suc (differences (drop (i + 1) s) (drop (i + 1) t))
   other-next e = rw (add-one i, drop-cons s i 0 h, drop-cons t i 0 k) (other_cons (get_or s i 0) (get_or t i 0) (drop (suc i) s) (drop (suc i) t) e)
 
--- a copy of i tags becomes one of i + 1
-pub copy_next : (d s o : List ℕ) (i : ℕ) → length s ≤ length d → i < length s → o ≡ paste d 0 s i
-    → set o i (get_or s i 0) ≡ paste d 0 s (i + 1)
-copy_next d s o i hd hs e =
-    let h : 0 + i < length d = omega arith in
-    rw (add-one, e)
-    (subst (λ (j : ℕ). set (paste d 0 s i) j (get_or s i 0) ≡ paste d 0 s (suc i)) (zero-add i) (paste-suc d 0 s i 0 h hs))
-
-pub copy_whole : (d s o : List ℕ) (i : ℕ) → i ≡ length s → o ≡ paste d 0 s i → o ≡ s ++ drop (length s) d
-copy_whole d s o i p e = rw (e, p, take-length s, zero-add)
-
 -- the cases of `admitted` and of `run`, in the order in which they are tested
 module _ (k : ℕ) (s : List ℕ) where
   pub admitted-long : longest_sentence < length s → refused 13 nothing ≡ admitted k s
@@ -62,11 +49,11 @@ module _ (k : ℕ) (s : List ℕ) where
   admitted-all h t = cc (le-leb (length s) longest_sentence h, lt-ltb (highest s) k t)
 
 module _ (k : ℕ) (s : List ℕ) (room : ℕ) (made : List ℕ) where
-  pub run-refused : (r : Admission) (x : Refusal) → r ≡ Admission.Refused x → admission_outcome r ≡ admitted k s → admission r made ≡ run k s room made
+  pub run-refused : (r : Result (Unit {0}) Refusal) (x : Refusal) → r ≡ Err x → outcome_of r ≡ admitted k s → admission r made ≡ run k s room made
   run-refused r x e a =
-      ap (λ (y : Admission). admission y made) e
+      ap (λ (y : Result (Unit {0}) Refusal). admission y made) e
       ∙ sym (refusal_then x (λ (u : Unit {0}). provided 11 (leb (length s) room) (result made)))
-      ∙ ap (λ (o : Outcome (Unit {0})). and_then o (λ u. provided 11 (leb (length s) room) (result made))) (sym (ap admission_outcome e) ∙ a)
+      ∙ ap (λ (o : Outcome (Unit {0})). and_then o (λ u. provided 11 (leb (length s) room) (result made))) (sym (ap outcome_of e) ∙ a)
 
   pub run_room : admitted k s ≡ result tt → room < length s → refused 11 nothing ≡ run k s room made
   run_room e r = cc (e, lt-leb (length s) room r)
@@ -132,10 +119,10 @@ module _ (k : ℕ) (s : List ℕ) (room : ℕ) (made : List ℕ) where
 -- ---- how runs end
 
 module _ (outcome : Outcome (List ℕ)) (sentence out : List ℕ) where
-  pub ran-refused : (x : Refusal) → refusal x ≡ outcome → Ran outcome sentence out out (Refused x)
+  pub ran-refused : (x : Refusal) → refusal x ≡ outcome → Ran outcome sentence out out (Err x)
   ran-refused (AtByte n i) e = record { answered = cc; wrote = cc }
   ran-refused (AtRule n i) e = record { answered = cc; wrote = cc }
   ran-refused (Bare n) e = record { answered = cc; wrote = cc }
 
-  pub ran-changed : (made after : List ℕ) (n : ℕ) → result made ≡ outcome → Wrote made sentence out after n → Ran outcome sentence out after (Changed n)
+  pub ran-changed : (made after : List ℕ) (n : ℕ) → result made ≡ outcome → Wrote made sentence out after n → Ran outcome sentence out after (Ok n)
   ran-changed made after n e w = record { answered = cc w.counted; wrote = cc w.front }

@@ -1,15 +1,10 @@
--- Document 01's outcome for each case of `Admission`: of the sentence alone, and where `made` is what the run makes of it.
-use Rattle.std.specs.Prelude.{ℕ, List}
+-- Document 01's outcome of an admitted or refused sentence, where `made` is what the run makes of it.
+use Rattle.std.specs.Prelude.{ℕ, List, Result, Ok, Err}
 use Rattle.answers.specs.Outcome.{Outcome, result}
 use Rattle.answers.specs.Answer.{refusal}
-use Rattle.sentences.specs.declared.Admission.{Admission}
-use Rattle.sentences.specs.declared.Admission.TheVariants.{Admitted, Refused}
-
-abbrev pub admission_outcome : Admission → Outcome (Unit {0})
-admission_outcome Admitted = result tt
-admission_outcome (Refused r) = refusal r
+use Rattle.answers.specs.declared.Refusal.{Refusal}
 
 -- with room for what is made
-abbrev pub admission : Admission → List ℕ → Outcome (List ℕ)
-admission Admitted made = result made
-admission (Refused r) made = refusal r
+abbrev pub admission : Result (Unit {0}) Refusal → List ℕ → Outcome (List ℕ)
+admission (Ok u) made = result made
+admission (Err r) made = refusal r

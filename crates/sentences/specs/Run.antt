@@ -1,11 +1,11 @@
 -- A run over a sentence, of a book or of a table.
-use Rattle.std.specs.Prelude.{ℕ, ◌≤◌, max, ◌≡◌, List, [], ◌∷◌, leb, ltb, length}
+use Rattle.std.specs.Prelude.{ℕ, ◌≤◌, max, ◌≡◌, List, [], ◌∷◌, leb, ltb, length, Result}
 use Rattle.limits.specs.Limits.{longest_sentence}
 use Rattle.words.specs.Word.{Below, differences}
 use Rattle.answers.specs.Outcome.{Outcome, result, refused, and_then, provided}
 use Rattle.answers.specs.Slice.{written}
-use Rattle.answers.specs.Answer.{run_outcome}
-use Rattle.answers.specs.declared.RunAnswer.{RunAnswer}
+use Rattle.answers.specs.Answer.{outcome_of}
+use Rattle.answers.specs.declared.Refusal.{Refusal}
 
 -- the highest tag of a word, 0 of the empty one
 abbrev pub highest : List ℕ → ℕ
@@ -26,8 +26,8 @@ changed sentence (result made) = result (differences sentence made)
 changed sentence (refused n p) = refused n p
 
 -- a run has ended: its answer is the number of changed tags or the refusal, and the output slice holds the result or its old bytes
-pub record Ran (outcome : Outcome (List ℕ)) (sentence before after : List ℕ) (answer : RunAnswer) : Type 0 where
-  pub answered : run_outcome answer ≡ changed sentence outcome
+pub record Ran (outcome : Outcome (List ℕ)) (sentence before after : List ℕ) (answer : Result ℕ Refusal) : Type 0 where
+  pub answered : outcome_of answer ≡ changed sentence outcome
   pub wrote : after ≡ written outcome before
 
 -- no refusal of a sentence fits: it is not too long, its tags are below k, and the output slice is at least as long

@@ -5,58 +5,46 @@ ghost use Rattle.std.specs.Prelude.{◌≡◌, ℕ, ◌+◌, ◌≤◌, List, �
 ghost use Rattle.words.specs.Word.{differences};
 ghost use Rattle.sentences.specs.Run.{highest, admitted, run};
 ghost use Rattle.sentences.specs.Parts.{Counted};
-ghost use Rattle.sentences.specs.Admission.{admission_outcome, admission};
+ghost use Rattle.answers.specs.Answer.{outcome_of};
+ghost use Rattle.sentences.specs.Admission.{admission};
 
-use answers::Refusal;
-use words::lesser;
-
-#[derive(Clone, Copy)]
-pub enum Admission {
-    Admitted,
-    Refused(Refusal),
-}
+use answers::{Reason, Refusal};
 
 // The highest tag of the word.
 pub fn highest_of(s: &[u8]) -> u8
     ensures { result ≡ highest s.now }
 {
-    let mut top = 0u8;
-    let mut i = 0;
-    while i < s.len() {
-        let a = s[i];
-        if top < a {
-            top = a;
+    let mut top = 0;
+    for a in s {
+        if top < *a {
+            top = *a;
         }
-        i += 1;
     }
     top
 }
 
 // 13 and 4 in that order: whether the sentence can be run over k tags.
-pub fn admit_tags(sentence: &[u8], k: u8) -> Admission
-    ensures { admission_outcome result ≡ admitted k sentence.now }
+pub fn admit_tags(sentence: &[u8], k: u8) -> Result<(), Refusal>
+    ensures { outcome_of result ≡ admitted k sentence.now }
 {
     if limits::SENTENCE < sentence.len() {
-        return Admission::Refused(Refusal::Bare { number: 13 });
+        return Err(Refusal::Bare(Reason::LongSentence));
     }
     if k <= highest_of(sentence) {
-        return Admission::Refused(Refusal::Bare { number: 4 });
+        return Err(Refusal::Bare(Reason::BadTag));
     }
-    Admission::Admitted
+    Ok(())
 }
 
 // Then 11: whether its result may be written to a slice of `room` bytes.
-pub fn admit(sentence: &[u8], k: u8, room: usize) -> Admission
+pub fn admit(sentence: &[u8], k: u8, room: usize) -> Result<(), Refusal>
     ensures { (made : List ℕ) → admission result made ≡ run k sentence.now room made }
 {
-    let tags = admit_tags(sentence, k);
-    let Admission::Admitted = tags else {
-        return tags;
-    };
+    admit_tags(sentence, k)?;
     if room < sentence.len() {
-        return Admission::Refused(Refusal::Bare { number: 11 });
+        return Err(Refusal::Bare(Reason::ShortOutput));
     }
-    tags
+    Ok(())
 }
 
 // The sentence to the front of `out`.
@@ -64,11 +52,7 @@ pub fn copy(sentence: &[u8], out: &mut [u8])
     requires { length sentence.now ≤ length out.old }
     ensures { out.new ≡ sentence.now ++ drop (length sentence.now) out.old }
 {
-    let mut i = 0;
-    while i < sentence.len() {
-        out[i] = sentence[i];
-        i += 1;
-    }
+    out[..sentence.len()].copy_from_slice(sentence);
 }
 
 // The number of places from one place up to another, not far after it, at which two words differ. A sum of bytes can be taken of many
@@ -79,12 +63,10 @@ fn count_near(a: &[u8], b: &[u8], from: usize, to: usize) -> usize
     ensures { Counted a.now b.now from to result }
 {
     let mut n = 0u8;
-    let mut i = from;
-    while i < to {
+    for i in from..to {
         if a[i] != b[i] {
             n += 1;
         }
-        i += 1;
     }
     n as usize
 }
@@ -97,7 +79,7 @@ pub fn count_changes(a: &[u8], b: &[u8]) -> usize
     let mut n = 0;
     let mut i = 0;
     while i < a.len() {
-        let to = i + lesser(192, a.len() - i);
+        let to = i + (a.len() - i).min(192);
         n += count_near(a, b, i, to);
         i = to;
     }

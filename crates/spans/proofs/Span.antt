@@ -8,9 +8,9 @@ use mathlib.Core.List.{List, [], ◌∷◌, ◌++◌}
 use borrow.Author.Tests.{eq-eqb, ne_eqb, eqb-true, eqb-false}
 use lib.Dec.{eqb}
 use lib.ListN.{length, take, drop, get_or}
-use lib.Seq.{drop-cons, drop-length, take-suc, take-length, take_all, length-take-le}
+use lib.Seq.{take-suc, length-take-le}
 use denote.Ref.{Bor}
-use Rattle.spans.specs.Span.{first_difference, last_difference, Span, whole, part, span, IsSpan}
+use Rattle.spans.specs.Span.{first_difference, last_difference, Span, part, span, IsSpan}
 
 -- ---- what they are
 
@@ -114,13 +114,6 @@ first-differs (a ∷ v) (b ∷ w) l h = by (eqb a b) refl h (first-differs v w (
 
 -- ---- how loops find them
 
-module _ (v w : List ℕ) (i : ℕ) (h : i < length v) (k : i < length w) where
-  pub first-here : Differ v w i → first_difference (drop i v) (drop i w) ≡ 0
-  first-here d = cc (drop-cons v i 0 h, drop-cons w i 0 k, ne_eqb (get_or v i 0) (get_or w i 0) d)
-
-  pub first_on : get_or v i 0 ≡ get_or w i 0 → first_difference (drop i v) (drop i w) ≡ suc (first_difference (drop (i + 1) v) (drop (i + 1) w))
-  first_on e = cc (drop-cons v i 0 h, drop-cons w i 0 k, eq-eqb (get_or v i 0) (get_or w i 0) e, add-one i)
-
 snoc_same : (x y : List ℕ) (a b : ℕ) → length x ≡ length y → a ≡ b → last_difference (x ++ (a ∷ [])) (y ++ (b ∷ [])) ≡ last_difference x y
 snoc_same [] [] a b l e = cc (eq-eqb a b e)
 snoc_same [] (d ∷ y) a b l e = absurd (omega arith)
@@ -169,14 +162,13 @@ module _ (v w : List ℕ) (i : ℕ) (l : length v ≡ length w) (some : 0 < i) (
       subst (λ (n : ℕ). last_difference (take n v) (take n w) ≡ last_difference (take (i - 1) v) (take (i - 1) w)) above
       (last_on v w (i - 1) (omega arith) (omega arith) e)
 
-pub last-start : (v w : List ℕ) → length v ≡ length w → last_difference v w ≡ last_difference (take (length v) v) (take (length v) w)
-last-start v w l = cc (take-length v, take_all (length v) w (omega arith))
-
-pub last_end : (v w : List ℕ) (i : ℕ) → i ≡ 0 → 0 ≡ last_difference (take i v) (take i w)
-last_end v w i e = cc
-
-pub first-end : (v w : List ℕ) (i : ℕ) → i ≡ length v → first_difference (drop i v) (drop i w) ≡ 0
-first-end v w i e = let d : drop i v ≡ [] = rw e (drop-length v) in cc
+-- where they differ, the part lies within the result
+pub span_inside : (v w : List ℕ) → length v ≡ length w → (last_difference v w ≡ 0 → ⊥) → (first_difference v w ≤ last_difference v w) × (last_difference v w ≤ length w)
+span_inside v w l d = by (last_difference v w) refl
+  where
+    by : (n : ℕ) → last_difference v w ≡ n → (first_difference v w ≤ last_difference v w) × (last_difference v w ≤ length w)
+    by zero e = absurd (d e)
+    by (suc n) e = let h = last-ends v w n l e in (omega (arith, h.reached), omega (arith, h.inside))
 
 -- ---- the cases of `span`
 
@@ -184,31 +176,9 @@ module _ (v w : List ℕ) where
   pub span_unequal : (length v ≡ length w → ⊥) → span v w ≡ part 0 0
   span_unequal d = cc (ne_eqb (length v) (length w) d)
 
-  module _ (l : length v ≡ length w) where
-    pub span-whole : last_difference v w ≡ 0 → span v w ≡ whole
-    span-whole e = cc (eq-eqb (length v) (length w) l)
-
-    pub span-part : (last_difference v w ≡ 0 → ⊥) → span v w ≡ part (first_difference v w) (last_difference v w)
-    span-part d = by (last_difference v w) refl
-      where
-        by : (n : ℕ) → last_difference v w ≡ n → span v w ≡ part (first_difference v w) (last_difference v w)
-        by zero e = absurd (d e)
-        by (suc n) e = cc (eq-eqb (length v) (length w) l)
-
-    -- the part lies within the result
-    pub span-inside : (last_difference v w ≡ 0 → ⊥) → (first_difference v w ≤ last_difference v w) × (last_difference v w ≤ length w)
-    span-inside d = by (last_difference v w) refl
-      where
-        by : (n : ℕ) → last_difference v w ≡ n → (first_difference v w ≤ last_difference v w) × (last_difference v w ≤ length w)
-        by zero e = absurd (d e)
-        by (suc n) e = let h = last-ends v w n l e in (omega (arith, h.reached), omega (arith, h.inside))
-
 -- ---- references to them
 
 module _ (s m r : Bor (List ℕ)) where
-  pub is_whole : span s.now m.now ≡ whole → r ≡ s → IsSpan s m (span s.now m.now) r
-  is_whole e h = subst (λ (x : Span). IsSpan s m x r) (sym e) h
-
   pub is-part : (from to i j : ℕ) → span s.now m.now ≡ part from to → i ≡ from → j ≡ to → r.ref_ptr.0 ≡ m.ref_ptr.0 → r.ref_ptr.1 ≡ i + m.ref_ptr.1
       → r.now ≡ take (j - i) (drop i m.now) → IsSpan s m (span s.now m.now) r
   is-part from to i j e f g p q h = subst (λ (x : Span). IsSpan s m x r) (sym e) (p, omega arith, cc)

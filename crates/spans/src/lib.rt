@@ -9,14 +9,12 @@ fn first_difference(v: &[u8], w: &[u8]) -> usize
     requires { length v.now ≡ length w.now }
     ensures { result ≡ first_difference v.now w.now }
 {
-    let mut i = 0;
-    while i < v.len() {
+    for i in 0..v.len() {
         if v[i] != w[i] {
             return i;
         }
-        i += 1;
     }
-    i
+    v.len()
 }
 
 // One more than the last place at which the two words differ; 0 where there is none.
@@ -24,18 +22,16 @@ fn last_difference(v: &[u8], w: &[u8]) -> usize
     requires { length v.now ≡ length w.now }
     ensures { result ≡ last_difference v.now w.now }
 {
-    let mut end = v.len();
-    while 0 < end {
-        let j = end - 1;
-        if v[j] != w[j] {
-            return end;
+    for i in (0..v.len()).rev() {
+        if v[i] != w[i] {
+            return i + 1;
         }
-        end = j;
     }
     0
 }
 
 // The sentence itself where the result is the same; else the part of the result from the first differing place to the last.
+#[tactic(auto, using(crate::proofs::Span::span_inside))]
 pub fn changed_span<'a>(sentence: &'a [u8], res: &'a [u8]) -> &'a [u8]
     ensures { IsSpan sentence.entry res.entry (span sentence.now res.now) result }
 {

@@ -2,23 +2,23 @@
 #![tactic(auto)]
 
 ghost use Rattle.std.specs.Prelude.{◌≡◌, length};
-ghost use Rattle.answers.specs.Answer.{compile_outcome};
+ghost use Rattle.answers.specs.Answer.{outcome_of};
 ghost use Rattle.answers.specs.Slice.{long_of, written};
 ghost use Rattle.starter.specs.Starter.{starter_answer};
 
-use answers::{CompileAnswer, Refusal};
+use answers::{Reason, Refusal};
 
 mod table;
 
 // The table to the front of `out`: what compile answers for the starter book.
-pub fn write_table(out: &mut [u8]) -> CompileAnswer
-    ensures answer { compile_outcome result ≡ long_of (starter_answer (length out.old)) }
+pub fn write_table(out: &mut [u8]) -> Result<usize, Refusal>
+    ensures answer { outcome_of result ≡ long_of (starter_answer (length out.old)) }
     ensures out { out.new ≡ written (starter_answer (length out.old)) out.old }
 {
     let table = table::TABLE;
     if out.len() < table.len() {
-        return CompileAnswer::Refused(Refusal::Bare { number: 11 });
+        return Err(Refusal::Bare(Reason::ShortOutput));
     }
     sentences::copy(&table, out);
-    CompileAnswer::Table(table.len())
+    Ok(table.len())
 }

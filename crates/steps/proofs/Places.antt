@@ -1,5 +1,5 @@
 -- Words and steps at a place of the bytes, and their entries.
-use Prim.Native.Nat.{ℕ, zero, suc, ◌+◌, ◌*◌, ◌/◌, ◌<◌, ◌≤◌, ◌-◌, min}
+use Prim.Native.Nat.{ℕ, zero, suc, ◌+◌, ◌*◌, ◌/◌, ◌<◌, ◌≤◌, ◌-◌}
 use native.Mathlib.Numerals.{add-one}
 use native.Mathlib.Decide.{dec_lt}
 use native.Mathlib.Omega.{arith}
@@ -7,14 +7,13 @@ use native.Mathlib.Nat.{mul-le-mul, suc-mul, div-eq_of_eq-mul_left}
 use mathlib.Core.Path.{◌≡◌, refl, sym, ap, ◌∙◌}
 use mathlib.Core.Bool.{Bool, true}
 use mathlib.Core.List.{List, [], ◌∷◌, ◌++◌}
-use lib.ListN.{length, take, drop, get_or, set, length-drop, length-append}
-use lib.Seq.{drop-cons, get_or-drop, get_or-take, get_or-set_same, get_or-set_other}
-use borrow.Author.Tests.{eq-eqb, ne_eqb, le-ltb}
+use lib.ListN.{length, drop, get_or, set, length-drop, length-append}
+use lib.Seq.{drop-cons, get_or-drop, get_or-set_same, get_or-set_other}
 use Rattle.limits.specs.Limits.{most_tags, most_states}
 use Rattle.answers.specs.Outcome.{result}
 use Rattle.tables.specs.Bytes.{number, tagged, step_bytes}
 use Rattle.tables.specs.Decode.{word, malformed, read_step}
-use Rattle.tables.proofs.Words.{word_more, word-other, word-high, word_begins, length-tagged}
+use Rattle.tables.proofs.Words.{word_more, word-other, word_begins, length-tagged}
 use Rattle.tables.proofs.Parts.{step-at}
 use Rattle.steps.specs.Entry.{count_of, place_of, base_of, TagsAt, EntryOf, FinalEntry, StepEntry}
 use Rattle.steps.specs.Part.{Part, SameBelow, Single, SingleIf}
@@ -58,9 +57,6 @@ module _ (c k : ℕ) (bs : List ℕ) (at : ℕ) where
     pub word-left : (get_or bs at 0 ≡ c → ⊥) → length (word c k (drop at bs)) ≡ 0
     word-left n = rw two (ap length (word-other c k (get_or bs at 0) (get_or bs (at + 1) 0) (drop (at + 2) bs) n))
 
-    pub word-last : get_or bs at 0 ≡ c → k ≤ get_or bs (at + 1) 0 → length (word c k (drop at bs)) ≡ 0
-    word-last e g = rw two (ap length (word-high c k (get_or bs at 0) (get_or bs (at + 1) 0) (drop (at + 2) bs) e g))
-
 -- where the tags of a word stand
 pub tagged-at : (c : ℕ) (w rest : List ℕ) (j : ℕ) → j < length w → get_or (tagged c w ++ rest) (1 + 2 * j) 0 ≡ get_or w j 0
 tagged-at c [] rest j h = absurd (omega arith)
@@ -99,18 +95,6 @@ module _ (k s : ℕ) (bs : List ℕ) (at : ℕ) where
   module _ (h : 3 ≤ length bs - at) where
     three : drop at bs ≡ get_or bs at 0 ∷ get_or bs (at + 1) 0 ∷ get_or bs (at + 2) 0 ∷ drop (at + 3) bs
     three = drop_three bs at (omega arith)
-
-    step_case : (x y z : ℕ) (l : List ℕ) → (x ≡ 0x33 → ⊥) → read_step k s (x ∷ y ∷ z ∷ l) ≡ malformed
-    step_case x y z l n = cc (ne_eqb x 0x33 n)
-
-    pub step_other : (get_or bs at 0 ≡ 0x33 → ⊥) → read_step k s (drop at bs) ≡ malformed
-    step_other n = rw three (step_case (get_or bs at 0) (get_or bs (at + 1) 0) (get_or bs (at + 2) 0) (drop (at + 3) bs) n)
-
-    high_case : (x y z : ℕ) (l : List ℕ) → x ≡ 0x33 → s ≤ number y z → read_step k s (x ∷ y ∷ z ∷ l) ≡ malformed
-    high_case x y z l e g = cc (eq-eqb x 0x33 e, le-ltb (number y z) s g)
-
-    pub step-high : get_or bs at 0 ≡ 0x33 → s ≤ number (get_or bs (at + 1) 0) (get_or bs (at + 2) 0) → read_step k s (drop at bs) ≡ malformed
-    step-high e g = rw three (high_case (get_or bs at 0) (get_or bs (at + 1) 0) (get_or bs (at + 2) 0) (drop (at + 3) bs) e g)
 
     pub step_part :
         (ix : List ℕ) (cell end next base e : ℕ)
@@ -157,18 +141,6 @@ pub word_first : (bs w : List ℕ) (from : ℕ) → length w ≡ 1 → TagsAt bs
 word_first bs w from one st =
     let zero_more : from + 1 + 2 * 0 ≡ from + 1 = omega arith in
     rw zero_more at (st.tags 0 (omega arith))
-
-pub cell_other :
-    (bs w : List ℕ) (base from n e : ℕ)
-    → base_of e ≡ base
-    → count_of e ≡ n
-    → place_of e ≡ from + 1
-    → n ≡ min (length w) 0xff
-    → (length w ≡ 1 → ⊥)
-    → TagsAt bs (from + 1) w
-    → EntryOf bs base w e
-cell_other bs w base from n e b c p m other st =
-    record { base_is = b; count_is = omega arith; tag_is = λ h. absurd (other h); stands = λ h. rw p st }
 
 pub final-cell :
     (bs w : List ℕ) (from n e : ℕ)
@@ -240,18 +212,6 @@ row_next q k = rw (add-one q) (suc-mul q (k + 1))
 pub row_inside : (q s k n : ℕ) → q < s → s * (k + 1) ≤ n → q * (k + 1) + k < n
 row_inside q s k n h g = omega (arith, mul-le-mul {n₁ = q + 1} {m₁ = k + 1} {n₂ = s} {m₂ = k + 1} (omega arith) (omega arith), row_next q k)
 
-pub few-entries : (q k : ℕ) → q < most_states → k ≤ most_tags → q * (k + 1) < most_states * (most_tags + 1)
-few-entries q k h g =
-    let most = most_states * (most_tags + 1) in
-    omega (arith, row_inside q most_states k most h (all-entries most_states k (omega arith) g))
-
 -- a state's entries begin after its final word's
 pub next_of : (n k base : ℕ) → base ≡ n * (k + 1) + 1 → (base - 1) / (k + 1) ≡ n
 next_of n k base e = div-eq_of_eq-mul_left (omega arith) (omega (arith, e))
-
--- an element of the rest of a list
-pub rest_at : (ix : List ℕ) (tag base n : ℕ) → n ≡ tag → base + tag < length ix → get_or (take (length ix - n) (drop n ix)) base 0 ≡ get_or ix (base + tag) 0
-rest_at ix tag base n e h =
-    let inside : base < length ix - n = omega arith in
-    let sum : n + base ≡ base + tag = omega arith in
-    get_or-take (length ix - n) (drop n ix) base 0 inside ∙ get_or-drop n ix base 0 ∙ ap (λ (i : ℕ). get_or ix i 0) sum

@@ -1,11 +1,9 @@
 -- What the functions that read a part of a table's bytes ask and promise.
-use Rattle.std.specs.Prelude.{ℕ, ◌+◌, ◌-◌, ◌<◌, ◌≤◌, ◌≡◌, Bool, true, false, List, length, get_or, drop}
+use Rattle.std.specs.Prelude.{ℕ, ◌+◌, ◌-◌, ◌<◌, ◌≤◌, ◌≡◌, Bool, true, false, Option, Some, None, List, length, get_or, drop}
 use Rattle.limits.specs.Limits.{most_tags, most_states}
 use Rattle.answers.specs.Outcome.{Outcome, result}
 use Rattle.tables.specs.Bytes.{number}
 use Rattle.tables.specs.Decode.{malformed}
-use Rattle.steps.specs.declared.Reached.{Reached}
-use Rattle.steps.specs.declared.Reached.TheVariants.{To, Malformed}
 
 -- what the reader's functions ask: few tags and states, few bytes, and a place among them
 pub record Asked (bs : List ℕ) (at k s : ℕ) : Type 0 where
@@ -22,9 +20,9 @@ pub record Part {A : Type 0} (read : List ℕ → Outcome A) (bytes : A → List
   pub inside : to ≤ length bs
   pub holds : Holds value
 
-abbrev pub PartRead : {A : Type 0} → (List ℕ → Outcome A) → (A → List ℕ) → (A → Type 0) → List ℕ → ℕ → Reached → Type 0
-PartRead read bytes Holds bs from (To e) = Part read bytes Holds bs from e
-PartRead read bytes Holds bs from Malformed = read (drop from bs) ≡ malformed
+abbrev pub PartRead : {A : Type 0} → (List ℕ → Outcome A) → (A → List ℕ) → (A → Type 0) → List ℕ → ℕ → Option ℕ → Type 0
+PartRead read bytes Holds bs from (Some e) = Part read bytes Holds bs from e
+PartRead read bytes Holds bs from None = read (drop from bs) ≡ malformed
 
 -- the entries below are as before
 abbrev pub SameBelow : ℕ → List ℕ → List ℕ → Type 0

@@ -9,31 +9,12 @@ ghost use Rattle.books.specs.Arrays.{SetRows};
 ghost use Rattle.sentences.specs.Run.{Ran};
 ghost use Rattle.tagging.specs.Run.{book_run};
 ghost use Rattle.tagging.specs.Numbers.{book_numbers};
-ghost use Rattle.tagger.specs.Tried.{Tried, ended};
+ghost use Rattle.books.specs.Tried.{Tried};
 
-use answers::{Refusal, RunAnswer};
-use books::{HEAD, Reading};
+use answers::{Reason, Refusal};
+use books::{Rules, Unread};
 use limits::{Limits, PATTERN, RULES, STANDARD};
 use running::{run_pieces, run_rules};
-use words::lesser;
-
-// What a run answers where there may be no room for sets: that the book has one, and nothing was done.
-#[derive(Clone, Copy)]
-pub enum Trial {
-    Changed(usize),
-    Refused(Refusal),
-    Sets,
-}
-
-// A run that is done.
-fn done(answer: RunAnswer) -> Trial
-    ensures { result ≡ ended answer }
-{
-    match answer {
-        RunAnswer::Changed(changes) => Trial::Changed(changes),
-        RunAnswer::Refused(refusal) => Trial::Refused(refusal),
-    }
-}
 
 // Runs a book over a sentence, with limits in their ranges, where the slices that get a result have at least `room` bytes. The reader is lent a
 // slice of all of the book: the slice itself would be copied in memory, and the reader would wait for the copy.
@@ -46,26 +27,26 @@ fn run_within(
     room: usize,
     sets: &mut [[u64; PATTERN]],
     lim: Limits,
-) -> Trial
+) -> Result<usize, Unread>
     requires { (room ≤ length out.old) × InRange lim × SetRows sets.old }
     ensures out { Tried result (Ran (book_run lim book.now end sentence.now room) sentence.now out.old out.new) ((length sets.old ≡ 0) × (out.new ≡ out.old)) }
     ensures v { Tried result (λ answer. (room ≤ length v.old → v.new ≡ written (book_numbers lim book.now end sentence.now room) v.old)) (v.new ≡ v.old) }
 {
-    let mut rows = [[0u8; PATTERN]; RULES];
-    let mut lengths = [0usize; RULES];
-    let mut heads = [[0u8; HEAD]; RULES];
+    let mut rules = Rules::new();
     let n = book.len();
-    let got = reader::read_into(&book[..n], &mut rows, &mut lengths, &mut heads, sets, lim);
-    match got {
-        Reading::Refused(refusal) => Trial::Refused(refusal),
-        Reading::Sets => Trial::Sets,
-        Reading::Book { tags: k, rules } => {
-            let answer = run_pieces(
-                sentence, out, v, room, k, end, rules, &rows, &lengths, &heads, sets,
-            );
-            done(answer)
-        }
-    }
+    let count = reader::read_into(&book[..n], &mut rules, sets, lim)?;
+    let changes = run_pieces(
+        sentence,
+        out,
+        v,
+        room,
+        count.tags,
+        end,
+        count.rules,
+        &rules,
+        sets,
+    )?;
+    Ok(changes)
 }
 
 // The same with room for sets.
@@ -77,17 +58,16 @@ fn run_again(
     v: &mut [u8],
     room: usize,
     lim: Limits,
-) -> RunAnswer
+) -> Result<usize, Refusal>
     requires { (room ≤ length out.old) × InRange lim }
     ensures out { Ran (book_run lim book.now end sentence.now room) sentence.now out.old out.new result }
     ensures v { room ≤ length v.old → v.new ≡ written (book_numbers lim book.now end sentence.now room) v.old }
 {
     let mut sets = [[0u64; PATTERN]; RULES];
-    let got = run_within(book, end, sentence, out, v, room, &mut sets[..], lim);
-    match got {
-        Trial::Changed(changes) => RunAnswer::Changed(changes),
-        Trial::Refused(refusal) => RunAnswer::Refused(refusal),
-        Trial::Sets => RunAnswer::Refused(Refusal::Bare { number: 0 }),
+    match run_within(book, end, sentence, out, v, room, &mut sets[..], lim) {
+        Ok(changes) => Ok(changes),
+        Err(Unread::Refused(refusal)) => Err(refusal),
+        Err(Unread::Sets) => unreachable!(),
     }
 }
 
@@ -103,21 +83,21 @@ pub fn run_book_rules(
     out: &mut [u8],
     rules: &mut [u8],
     lim: Limits,
-) -> RunAnswer
+) -> Result<usize, Refusal>
     ensures out { Ran (book_run lim book.now end sentence.now (min (length out.old) (length rules.old))) sentence.now out.old out.new result }
     ensures rules { rules.new ≡ written (book_numbers lim book.now end sentence.now (min (length out.old) (length rules.old))) rules.old }
 {
     if limits::in_range(lim) {
-        let room = lesser(out.len(), rules.len());
+        let room = out.len().min(rules.len());
         let mut none = [[0u64; PATTERN]; 0];
         let got = run_within(book, end, sentence, out, rules, room, &mut none[..], lim);
         return match got {
-            Trial::Changed(changes) => RunAnswer::Changed(changes),
-            Trial::Refused(refusal) => RunAnswer::Refused(refusal),
-            Trial::Sets => run_again(book, end, sentence, out, rules, room, lim),
+            Ok(changes) => Ok(changes),
+            Err(Unread::Refused(refusal)) => Err(refusal),
+            Err(Unread::Sets) => run_again(book, end, sentence, out, rules, room, lim),
         };
     }
-    RunAnswer::Refused(Refusal::Bare { number: 17 })
+    Err(Refusal::Bare(Reason::BadLimit))
 }
 
 // The same without the numbers.
@@ -127,7 +107,7 @@ pub fn run_book_ending(
     sentence: &[u8],
     out: &mut [u8],
     lim: Limits,
-) -> RunAnswer
+) -> Result<usize, Refusal>
     ensures { Ran (book_run lim book.now end sentence.now (length out.old)) sentence.now out.old out.new result }
 {
     if limits::in_range(lim) {
@@ -145,16 +125,21 @@ pub fn run_book_ending(
             lim,
         );
         return match got {
-            Trial::Changed(changes) => RunAnswer::Changed(changes),
-            Trial::Refused(refusal) => RunAnswer::Refused(refusal),
-            Trial::Sets => run_again(book, end, sentence, out, &mut v[..], room, lim),
+            Ok(changes) => Ok(changes),
+            Err(Unread::Refused(refusal)) => Err(refusal),
+            Err(Unread::Sets) => run_again(book, end, sentence, out, &mut v[..], room, lim),
         };
     }
-    RunAnswer::Refused(Refusal::Bare { number: 17 })
+    Err(Refusal::Bare(Reason::BadLimit))
 }
 
 // The same with the limits of document 01, which are in their ranges.
-pub fn run_book_standard(book: &[u8], end: u8, sentence: &[u8], out: &mut [u8]) -> RunAnswer
+pub fn run_book_standard(
+    book: &[u8],
+    end: u8,
+    sentence: &[u8],
+    out: &mut [u8],
+) -> Result<usize, Refusal>
     ensures { Ran (book_run standard book.now end sentence.now (length out.old)) sentence.now out.old out.new result }
 {
     let mut v = [0u8; 0];
@@ -171,14 +156,19 @@ pub fn run_book_standard(book: &[u8], end: u8, sentence: &[u8], out: &mut [u8]) 
         STANDARD,
     );
     match got {
-        Trial::Changed(changes) => RunAnswer::Changed(changes),
-        Trial::Refused(refusal) => RunAnswer::Refused(refusal),
-        Trial::Sets => run_again(book, end, sentence, out, &mut v[..], room, STANDARD),
+        Ok(changes) => Ok(changes),
+        Err(Unread::Refused(refusal)) => Err(refusal),
+        Err(Unread::Sets) => run_again(book, end, sentence, out, &mut v[..], room, STANDARD),
     }
 }
 
 // Runs a book with sets over a sentence without an end tag, with limits in their ranges.
-fn run_without_end(book: &[u8], sentence: &[u8], out: &mut [u8], lim: Limits) -> RunAnswer
+fn run_without_end(
+    book: &[u8],
+    sentence: &[u8],
+    out: &mut [u8],
+    lim: Limits,
+) -> Result<usize, Refusal>
     requires { InRange lim }
     ensures { Ran (book_run lim book.now no_end sentence.now (length out.old)) sentence.now out.old out.new result }
 {
@@ -188,37 +178,25 @@ fn run_without_end(book: &[u8], sentence: &[u8], out: &mut [u8], lim: Limits) ->
 }
 
 // The same for every book, without room for sets at first.
-fn run_whole(book: &[u8], sentence: &[u8], out: &mut [u8], lim: Limits) -> RunAnswer
+fn run_whole(book: &[u8], sentence: &[u8], out: &mut [u8], lim: Limits) -> Result<usize, Refusal>
     requires { InRange lim }
     ensures { Ran (book_run lim book.now no_end sentence.now (length out.old)) sentence.now out.old out.new result }
 {
-    let mut rows = [[0u8; PATTERN]; RULES];
-    let mut lengths = [0usize; RULES];
-    let mut heads = [[0u8; HEAD]; RULES];
+    let mut rules = Rules::new();
     let none = [[0u64; PATTERN]; 0];
-    let got = reader::read_plain_into(book, &mut rows, &mut lengths, &mut heads, &none[..], lim);
-    match got {
-        Reading::Refused(refusal) => RunAnswer::Refused(refusal),
-        Reading::Sets => run_without_end(book, sentence, out, lim),
-        Reading::Book { tags: k, rules } => run_rules(
-            sentence,
-            out,
-            k,
-            rules,
-            &rows,
-            &lengths,
-            &heads,
-            &none[..],
-        ),
+    match reader::read_plain_into(book, &mut rules, &none[..], lim) {
+        Ok(count) => run_rules(sentence, out, count.tags, count.rules, &rules, &none[..]),
+        Err(Unread::Refused(refusal)) => Err(refusal),
+        Err(Unread::Sets) => run_without_end(book, sentence, out, lim),
     }
 }
 
 // The same with any limits. It has no test for an end tag, and is the quicker for it.
-pub fn run_book(book: &[u8], sentence: &[u8], out: &mut [u8], lim: Limits) -> RunAnswer
+pub fn run_book(book: &[u8], sentence: &[u8], out: &mut [u8], lim: Limits) -> Result<usize, Refusal>
     ensures { Ran (book_run lim book.now no_end sentence.now (length out.old)) sentence.now out.old out.new result }
 {
     if limits::in_range(lim) {
         return run_whole(book, sentence, out, lim);
     }
-    RunAnswer::Refused(Refusal::Bare { number: 17 })
+    Err(Refusal::Bare(Reason::BadLimit))
 }

@@ -1,13 +1,12 @@
 -- A word is put out: no tag, one or more.
 use Prim.Native.Nat.{ℕ, ◌+◌, ◌*◌, ◌<◌, ◌≤◌, ◌-◌}
 use native.Mathlib.Numerals.{add-one}
-use native.Mathlib.Nat.{add-zero}
 use native.Mathlib.Omega.{arith}
 use mathlib.Core.Path.{◌≡◌, refl, sym, ap, ◌∙◌}
-use mathlib.Core.List.{List, [], ◌∷◌, append-nil}
-use lib.ListN.{length, take, drop, get_or, set, length-set}
-use lib.Seq.{drop-drop, take-suc-set, take-set-le, drop-set-lt, take-length, paste, paste-suc, take-paste, drop-paste}
-use Rattle.steps.specs.Entry.{tag_of, count_of, place_of, TagsAt, EntryOf}
+use mathlib.Core.List.{List}
+use lib.ListN.{length, drop, get_or, set, length-set}
+use lib.Seq.{drop-drop, take-set-le, drop-set-lt, take-length, paste, paste-suc, take-paste, drop-paste}
+use Rattle.steps.specs.Entry.{count_of, place_of, TagsAt, EntryOf}
 use Rattle.transduction.specs.Parts.{WordPut}
 
 -- a turn of the loop that puts a word
@@ -25,22 +24,6 @@ put_next bs out now w place at j st room h e =
 module _ (out : List ℕ) (at : ℕ) (inside : at < length out) where
   kept_set : (v c : ℕ) → at < c → drop c (set out at v) ≡ drop c out
   kept_set v c h = drop-set-lt c out at v h
-
-  pub put-none : (v : ℕ) → WordPut out (set out at v) at [] at
-  put-none v =
-      record {
-        end = omega arith;
-        front = take-set-le at out at v (omega arith) ∙ sym (append-nil (take at out));
-        kept = λ c h g. kept_set v c h;
-      }
-
-  pub put_one : (v a : ℕ) → v ≡ a → WordPut out (set out at v) at (a ∷ []) (at + 1)
-  put_one v a e =
-      record {
-        end = omega arith;
-        front = rw (add-one, e) (take-suc-set out at a inside);
-        kept = λ c h g. kept_set v c h;
-      }
 
   pub put-more : (v : ℕ) (w : List ℕ) → at + length w ≤ length out → WordPut out (paste (set out at v) at w (length w)) at w (at + length w)
   put-more v w room =
@@ -66,16 +49,6 @@ module _ (out : List ℕ) (at : ℕ) (inside : at < length out) where
 
   -- the word of an entry
   module _ (bs w : List ℕ) (base e : ℕ) (cell : EntryOf bs base w e) (short : length w < 0xff) where
-    few_case : (v : ℕ) (u : List ℕ) → length u < 2 → (0 < length u → v ≡ get_or u 0 0) → WordPut out (set out at v) at u (at + length u)
-    few_case v [] h f = rw add-zero (put-none v)
-    few_case v (a ∷ []) h f = put_one v a (f (omega arith))
-    few_case v (a ∷ b ∷ u) h f = absurd (omega arith)
-
-    pub put-few : (count : ℕ) → count ≡ count_of e → count < 2 → WordPut out (set out at (tag_of e)) at w (at + count)
-    put-few count c h =
-        let n : count ≡ length w = omega (arith, cell.count_is) in
-        rw n (few_case (tag_of e) w (omega arith) (λ g. cell.tag_is (omega (arith, h, n))))
-
     pub put-many :
         (v count place : ℕ) (out' : List ℕ)
         → count ≡ count_of e

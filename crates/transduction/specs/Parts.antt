@@ -1,9 +1,10 @@
 -- What the parts of a table's run promise one another.
-use Rattle.std.specs.Prelude.{ℕ, ◌+◌, ◌*◌, ◌<◌, ◌≤◌, ◌≡◌, List, [], ◌++◌, length, take, drop}
+use Rattle.std.specs.Prelude.{ℕ, ◌+◌, ◌*◌, ◌<◌, ◌≤◌, ◌≡◌, List, [], ◌++◌, length, take, drop, Result, Ok, Err}
 use Rattle.words.specs.Word.{Below}
 use Rattle.limits.specs.declared.Limits.{Limits}
 use Rattle.answers.specs.Outcome.{Outcome, result, refused}
 use Rattle.answers.specs.Answer.{refusal}
+use Rattle.answers.specs.declared.Refusal.{Refusal}
 use Rattle.sentences.specs.Run.{Ran}
 use Rattle.transducers.specs.Transducer.{puts}
 use Rattle.transducers.specs.Table.{Table, row, step, shape}
@@ -43,10 +44,15 @@ pub record EntryAt (bs : List ℕ) (k : ℕ) (t : Table) (cell e : ℕ) : Type 0
       → cell ≡ q * (k + 1) + 1 + a
       → EntryOf bs ((step t q a).next * (k + 1) + 1) (step t q a).output e
 
--- what is told of a table: its run over the sentence, and the entry of a cell if it is valid
-pub record Tells (lim : Limits) (bs : List ℕ) (k cell : ℕ) (sentence before after : List ℕ) (r : Told) : Type 0 where
-  pub ran : Ran (table_run lim bs sentence (length before)) sentence before after r.answer
-  pub told : (d : Decoded) → decode_within lim bs ≡ result d → (d.tags ≡ k) × ValidTable lim k d.table × EntryAt bs k d.table cell r.entry
+-- what is told of a table: its run over the sentence, and the entry of a cell
+pub record ToldOf (lim : Limits) (bs : List ℕ) (k cell : ℕ) (sentence before after : List ℕ) (t : Told) : Type 0 where
+  pub ran : Ran (table_run lim bs sentence (length before)) sentence before after (Ok t.changed)
+  pub told : (d : Decoded) → decode_within lim bs ≡ result d → (d.tags ≡ k) × ValidTable lim k d.table × EntryAt bs k d.table cell t.entry
+
+-- nothing but the refusal where the run is refused
+abbrev pub Tells : Limits → List ℕ → ℕ → ℕ → List ℕ → List ℕ → List ℕ → Result Told Refusal → Type 0
+Tells lim bs k cell sentence before after (Ok t) = ToldOf lim bs k cell sentence before after t
+Tells lim bs k cell sentence before after (Err r) = Ran (table_run lim bs sentence (length before)) sentence before after (Err r)
 
 -- a valid table was read, and the entry is that of the state's column, if there is one
 pub record CellRead (lim : Limits) (bs : List ℕ) (state column k s e : ℕ) : Type 0 where
@@ -62,6 +68,6 @@ pub record CellRead (lim : Limits) (bs : List ℕ) (state column k s e : ℕ) : 
       → column ≡ 1 + a
       → EntryOf bs ((step table state a).next * (k + 1) + 1) (step table state a).output e
 
-abbrev pub FoundIn : Limits → List ℕ → ℕ → ℕ → Found → Type 0
-FoundIn lim bs state column (Found.Entry k s e) = CellRead lim bs state column k s e
-FoundIn lim bs state column (Found.Refused r) = decode_within lim bs ≡ refusal r
+abbrev pub FoundIn : Limits → List ℕ → ℕ → ℕ → Result Found Refusal → Type 0
+FoundIn lim bs state column (Ok found) = CellRead lim bs state column found.size.tags found.size.states found.entry
+FoundIn lim bs state column (Err r) = decode_within lim bs ≡ refusal r

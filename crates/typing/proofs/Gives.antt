@@ -3,7 +3,7 @@ use Prim.Native.Nat.{ℕ, ◌+◌, ◌*◌, ◌-◌, ◌/◌, ◌<◌, ◌≤◌
 use native.Mathlib.Omega.{arith}
 use mathlib.Core.Path.{◌≡◌, refl, sym, ap, ◌∙◌}
 use mathlib.Core.Bool.{true, false}
-use mathlib.Core.List.{List, [], ◌∷◌, ◌++◌}
+use mathlib.Core.List.{List, ◌++◌}
 use borrow.Author.Tests.{le-leb, lt-leb}
 use lib.Dec.{leb}
 use lib.ListN.{length, drop, take-append-drop}
@@ -12,13 +12,13 @@ use Rattle.limits.specs.declared.Limits.{Limits}
 use Rattle.limits.proofs.Range.{within-result}
 use Rattle.answers.specs.Outcome.{Outcome, result, and_then, provided}
 use Rattle.answers.specs.Answer.{refusal}
-use Rattle.answers.proofs.Outcome.{refusal_then}
 use Rattle.answers.proofs.Slice.{filled-refused, filled-written}
 use Rattle.answers.specs.declared.Refusal.{Refusal}
 use Rattle.answers.specs.declared.Refusal.TheVariants.{AtByte, AtRule, Bare}
-use Rattle.answers.specs.declared.WriteAnswer.{WriteAnswer}
+use Rattle.answers.specs.declared.Reason.TheVariants.{ShortOutput}
+use Rattle.std.specs.Prelude.{Ok, Err}
 use Rattle.transducers.specs.Table.{Step, Table, step}
-use Rattle.tables.specs.Decode.{Decoded, decode, decode_within}
+use Rattle.tables.specs.Decode.{Decoded, decode}
 use Rattle.tables.proofs.Outcomes.{read-few}
 use Rattle.steps.specs.Entry.{base_of, count_of, place_of, EntryOf}
 use Rattle.steps.proofs.Places.{next_of}
@@ -36,17 +36,13 @@ put_front out out' w n some p =
     ∙ ap (λ (l : List ℕ). w ++ l) (p.kept n (omega arith) (omega arith))
     ∙ ap (λ (m : ℕ). w ++ drop m out) long
 
-pub put-none : (out w : List ℕ) → length w ≡ 0 → out ≡ w ++ drop (length w) out
-put-none out [] e = refl
-put-none out (a ∷ w) e = absurd (omega (arith, e))
-
 -- a table that was read has few tags
 pub cell-tags : (lim : Limits) {bs : List ℕ} {state column k s e : ℕ} → CellRead lim bs state column k s e → k ≤ most_tags
 cell-tags lim {bs} u = omega (arith, u.valid.tags_most, (within-result lim (decode lim bs) _ u.decodes).0.few_tags)
 
 module _ (lim : Limits) (bs : List ℕ) (x : Sentence) (a : ℕ) (out : List ℕ) where
   pub give-refused : (r : Refusal) → stepped lim bs x a (length out) ≡ refusal r
-      → Hands (give lim bs x a (length out)) out out (record { sentence = x; answer = WriteAnswer.Refused r })
+      → Hands (give lim bs x a (length out)) out out (record { sentence = x; answer = Err r })
   give-refused r e = record { sentence = by r e; filled = filled-refused _ out r (put_of r e) }
     where
       by : (r : Refusal) → stepped lim bs x a (length out) ≡ refusal r → x ≡ (give lim bs x a (length out)).sentence
@@ -64,10 +60,6 @@ module _ (lim : Limits) (bs : List ℕ) (x : Sentence) (a : ℕ) (out : List ℕ
       and_then (admits x d.tags (length d.table) a)
       (λ y. provided 11 (leb (length (step d.table x.state a).output) (length out)) (result (step d.table x.state a)))
 
-  pub give_unread : (r : Refusal) → decode_within lim bs ≡ refusal r
-      → Hands (give lim bs x a (length out)) out out (record { sentence = x; answer = WriteAnswer.Refused r })
-  give_unread r e = give-refused r (ap (λ (o : Outcome Decoded). and_then o after-reading) e ∙ refusal_then r after-reading)
-
   module _ (k s e : ℕ) (u : CellRead lim bs x.state (1 + a) k s e) where
     abbrev t : Table
     t = u.table
@@ -80,10 +72,6 @@ module _ (lim : Limits) (bs : List ℕ) (x : Sentence) (a : ℕ) (out : List ℕ
 
     steps : stepped lim bs x a (length out) ≡ and_then (admits x k s a) room
     steps = rw u.decodes (ap (λ (n : ℕ). and_then (admits x k n a) room) u.states)
-
-    pub take-refused : (r : Refusal) → admits x k s a ≡ refusal r
-        → Hands (give lim bs x a (length out)) out out (record { sentence = x; answer = WriteAnswer.Refused r })
-    take-refused r f = give-refused r (steps ∙ ap (λ (o : Outcome (Unit {0})). and_then o room) f ∙ refusal_then r room)
 
     module _ (f : admits x k s a ≡ result tt) where
       pub is-taken : Taken x s k a
@@ -103,10 +91,10 @@ module _ (lim : Limits) (bs : List ℕ) (x : Sentence) (a : ℕ) (out : List ℕ
       count = omega (arith, cell.count_is, short)
 
       pub take_short : length out < count_of e
-          → Hands (give lim bs x a (length out)) out out (record { sentence = x; answer = WriteAnswer.Refused (Bare 11) })
+          → Hands (give lim bs x a (length out)) out out (record { sentence = x; answer = Err (Bare ShortOutput) })
       take_short h =
           let o : leb (length v.output) (length out) ≡ false = lt-leb (length v.output) (length out) (omega (arith, count)) in
-          give-refused (Bare 11) (steps ∙ rw (f, o) refl)
+          give-refused (Bare ShortOutput) (steps ∙ rw (f, o) refl)
 
       pub take-place : (count_of e ≡ 1 → ⊥) → place_of e + 2 * count_of e ≤ length bs + 1
       take-place n = omega (arith, (cell.stands (λ o. n (omega (arith, count)))).inside, count)
@@ -117,7 +105,7 @@ module _ (lim : Limits) (bs : List ℕ) (x : Sentence) (a : ℕ) (out : List ℕ
       pub take_done : count_of e ≤ length out → (out' : List ℕ) (next n : ℕ) (after : Sentence) → n ≡ count_of e → next ≡ (base_of e - 1) / (k + 1)
           → after ≡ record { state = next; given = x.given + 1; closed = x.closed }
           → ((base : ℕ) (w : List ℕ) → EntryOf bs base w e → length w < 0xff → out' ≡ w ++ drop (length w) out)
-          → Hands (give lim bs x a (length out)) out out' (record { sentence = after; answer = WriteAnswer.Written n })
+          → Hands (give lim bs x a (length out)) out out' (record { sentence = after; answer = Ok n })
       take_done h out' next n after c b then all =
           let o : leb (length v.output) (length out) ≡ true = le-leb (length v.output) (length out) (omega (arith, count)) in
           let done : stepped lim bs x a (length out) ≡ result v = steps ∙ rw (f, o) refl in

@@ -5,11 +5,10 @@ use Rattle.limits.specs.Limits.{longest_sentence}
 use Rattle.limits.specs.declared.Limits.{Limits}
 use Rattle.answers.specs.Outcome.{Outcome, result, refused, and_then, provided}
 use Rattle.answers.specs.Slice.{fitting}
-use Rattle.answers.specs.Answer.{refusal, Filled}
+use Rattle.answers.specs.Answer.{Filled}
 use Rattle.transducers.specs.Table.{Step, row, step}
 use Rattle.tables.specs.Decode.{decode_within}
 use Rattle.typing.specs.declared.Sentence.{Sentence}
-use Rattle.typing.specs.declared.Opened.{Opened}
 use Rattle.typing.specs.declared.Typed.{Typed}
 
 -- "It opens a sentence over a table": in state 0, where a table starts, and with no tag given. "Opening can give 12", and 17 before it
@@ -61,11 +60,6 @@ shut s (refused n p) = record { sentence = s; put = refused n p }
 
 abbrev pub close : Limits → List ℕ → Sentence → ℕ → Handed
 close lim table s room = shut s (held lim table s room)
-
--- the cases of what opening answers
-abbrev pub open_outcome : Opened → Outcome Sentence
-open_outcome (Opened.Open s) = result s
-open_outcome (Opened.Refused r) = refusal r
 
 -- a call has ended: it hands the sentence back beside its answer, the number of tags put out or the refusal, and the output slice holds the
 -- tags or its old bytes

@@ -2,23 +2,17 @@
 // it knows whether it is well formed. Time O(b) for b bytes of a table; space is the table's index.
 #![tactic(auto)]
 
-ghost use Rattle.std.specs.Prelude.{◌≡◌, ℕ, ◌+◌, ◌*◌, ◌≤◌, ◌<◌, List, ◌++◌, length, drop};
+ghost use Rattle.std.specs.Prelude.{◌≡◌, ℕ, ◌+◌, ◌*◌, ◌≤◌, ◌<◌, List, ◌++◌, length, drop, Err};
 ghost use Rattle.limits.specs.Limits.{longest_sentence};
-ghost use Rattle.answers.specs.Answer.{Filled};
-ghost use Rattle.answers.specs.declared.Refusal.{Refusal};
-ghost use Rattle.answers.specs.declared.WriteAnswer.{WriteAnswer};
-ghost use Rattle.sentences.specs.Admission.{admission_outcome};
+ghost use Rattle.answers.specs.Answer.{outcome_of, Filled};
 ghost use Rattle.steps.specs.Entry.{count_of, place_of, EntryOf};
 ghost use Rattle.transduction.specs.Parts.{CellRead};
-ghost use Rattle.typing.specs.Typing.{opened, standing, admits, held, give, look, close, open_outcome, Hands};
+ghost use Rattle.typing.specs.Typing.{opened, standing, admits, held, give, look, close, Hands};
 
-use answers::{Refusal, WriteAnswer};
-use decoder::TableAnswer;
+use answers::{Reason, Refusal};
 use limits::Limits;
-use sentences::Admission;
-use steps::{count_of, next_state, place_of};
+use steps::{Size, count_of, next_state, place_of};
 use transduction::{Found, find_entry, put, put_word, read_table};
-use words::wide;
 
 // An open sentence, with any values: the state that its table is in, how many tags were given, and whether it is closed.
 #[derive(Clone, Copy)]
@@ -28,18 +22,11 @@ pub struct Sentence {
     pub closed: bool,
 }
 
-// Of opening.
-#[derive(Clone, Copy)]
-pub enum Opened {
-    Open(Sentence),
-    Refused(Refusal),
-}
-
-// Of every other call: the sentence, and how many tags were put out.
+// Of every call but opening: the sentence, and how many tags were put out.
 #[derive(Clone, Copy)]
 pub struct Typed {
     pub sentence: Sentence,
-    pub answer: WriteAnswer,
+    pub answer: Result<usize, Refusal>,
 }
 
 // The word of a step to the front of `out`; where there is none, `out` may be empty.
@@ -55,24 +42,21 @@ fn put_step(table: &[u8], e: u64, out: &mut [u8])
 
 // A refused call hands the sentence back.
 fn refuse(sentence: Sentence, given: Refusal) -> Typed
-    ensures { result ≡ record { sentence = sentence; answer = WriteAnswer.Refused given } }
+    ensures { result ≡ record { sentence = sentence; answer = Err given } }
 {
     Typed {
         sentence,
-        answer: WriteAnswer::Refused(given),
+        answer: Err(given),
     }
 }
 
 impl Sentence {
     // Opens a sentence over a table, or 17 or 12.
-    pub fn open(table: &[u8], lim: Limits) -> Opened
-        ensures { open_outcome result ≡ opened lim table.now }
+    pub fn open(table: &[u8], lim: Limits) -> Result<Sentence, Refusal>
+        ensures { outcome_of result ≡ opened lim table.now }
     {
-        let got = read_table(table, lim);
-        if let TableAnswer::Refused(r) = got {
-            return Opened::Refused(r);
-        }
-        Opened::Open(Sentence {
+        read_table(table, lim)?;
+        Ok(Sentence {
             state: 0,
             given: 0,
             closed: false,
@@ -80,33 +64,30 @@ impl Sentence {
     }
 
     // 15 and 16 in that order: whether the sentence can go on over a table of so many states.
-    fn stand(self, states: usize) -> Admission
-        ensures { admission_outcome result ≡ standing self states }
+    fn stand(self, states: usize) -> Result<(), Refusal>
+        ensures { outcome_of result ≡ standing self states }
     {
         if self.closed {
-            return Admission::Refused(Refusal::Bare { number: 15 });
+            return Err(Refusal::Bare(Reason::Closed));
         }
         if states <= self.state {
-            return Admission::Refused(Refusal::Bare { number: 16 });
+            return Err(Refusal::Bare(Reason::BadState));
         }
-        Admission::Admitted
+        Ok(())
     }
 
     // Then 13 and 4: whether it takes the tag.
-    fn admit(self, k: usize, states: usize, tag: u8) -> Admission
-        ensures { admission_outcome result ≡ admits self k states tag }
+    fn admit(self, size: Size, tag: u8) -> Result<(), Refusal>
+        ensures { outcome_of result ≡ admits self size.tags size.states tag }
     {
-        let stands = self.stand(states);
-        let Admission::Admitted = stands else {
-            return stands;
-        };
+        self.stand(size.states)?;
         if limits::SENTENCE <= self.given {
-            return Admission::Refused(Refusal::Bare { number: 13 });
+            return Err(Refusal::Bare(Reason::LongSentence));
         }
-        if k <= wide(tag) {
-            return Admission::Refused(Refusal::Bare { number: 4 });
+        if size.tags <= usize::from(tag) {
+            return Err(Refusal::Bare(Reason::BadTag));
         }
-        stands
+        Ok(())
     }
 
     // The sentence with a tag more, in another state.
@@ -117,37 +98,27 @@ impl Sentence {
         Sentence {
             state,
             given: self.given + 1,
-            closed: self.closed,
+            ..self
         }
     }
 
     // Gives a tag, of which the table is read and the entry of its step is found.
-    fn take(
-        self,
-        table: &[u8],
-        k: usize,
-        s: usize,
-        e: u64,
-        tag: u8,
-        out: &mut [u8],
-        lim: Limits,
-    ) -> Typed
-        requires { CellRead lim table.now self.state (1 + tag) k s e }
+    fn take(self, table: &[u8], found: Found, tag: u8, out: &mut [u8], lim: Limits) -> Typed
+        requires { CellRead lim table.now self.state (1 + tag) found.size.tags found.size.states found.entry }
         ensures { Hands (give lim table.now self tag (length out.old)) out.old out.new result }
     {
-        let admission = self.admit(k, s, tag);
-        if let Admission::Refused(r) = admission {
-            return refuse(self, r);
+        if let Err(given) = self.admit(found.size, tag) {
+            return refuse(self, given);
         }
-        let after = self.advance(next_state(e, k));
-        let count = count_of(e);
+        let after = self.advance(next_state(found.entry, found.size.tags));
+        let count = count_of(found.entry);
         if out.len() < count {
-            return refuse(self, Refusal::Bare { number: 11 });
+            return refuse(self, Refusal::Bare(Reason::ShortOutput));
         }
-        put_step(table, e, out);
+        put_step(table, found.entry, out);
         Typed {
             sentence: after,
-            answer: WriteAnswer::Written(count),
+            answer: Ok(count),
         }
     }
 
@@ -155,55 +126,24 @@ impl Sentence {
     pub fn give(self, table: &[u8], tag: u8, out: &mut [u8], lim: Limits) -> Typed
         ensures { Hands (give lim table.now self tag (length out.old)) out.old out.new result }
     {
-        let found = find_entry(table, self.state, 1 + wide(tag), lim);
-        match found {
-            Found::Entry {
-                tags,
-                states,
-                entry,
-            } => self.take(table, tags, states, entry, tag, out, lim),
-            Found::Refused(r) => refuse(self, r),
+        match find_entry(table, self.state, 1 + usize::from(tag), lim) {
+            Ok(found) => self.take(table, found, tag, out, lim),
+            Err(given) => refuse(self, given),
         }
-    }
-
-    // The final word of the state, of which the table is read and the entry found.
-    fn put_final(
-        self,
-        table: &[u8],
-        k: usize,
-        s: usize,
-        e: u64,
-        out: &mut [u8],
-        lim: Limits,
-    ) -> WriteAnswer
-        requires { CellRead lim table.now self.state 0 k s e }
-        ensures { Filled (held lim table.now self (length out.old)) out.old out.new result }
-    {
-        let stands = self.stand(s);
-        if let Admission::Refused(r) = stands {
-            return WriteAnswer::Refused(r);
-        }
-        let count = count_of(e);
-        if out.len() < count {
-            return WriteAnswer::Refused(Refusal::Bare { number: 11 });
-        }
-        put_word(table, place_of(e), count, out, 0);
-        WriteAnswer::Written(count)
     }
 
     // The final word of the state to the front of `out`: its length, or 17, 12, 15, 16 or 11 in that order.
-    fn put_held(self, table: &[u8], out: &mut [u8], lim: Limits) -> WriteAnswer
+    fn put_held(self, table: &[u8], out: &mut [u8], lim: Limits) -> Result<usize, Refusal>
         ensures { Filled (held lim table.now self (length out.old)) out.old out.new result }
     {
-        let found = find_entry(table, self.state, 0, lim);
-        match found {
-            Found::Entry {
-                tags,
-                states,
-                entry,
-            } => self.put_final(table, tags, states, entry, out, lim),
-            Found::Refused(r) => WriteAnswer::Refused(r),
+        let found = find_entry(table, self.state, 0, lim)?;
+        self.stand(found.size.states)?;
+        let count = count_of(found.entry);
+        if out.len() < count {
+            return Err(Refusal::Bare(Reason::ShortOutput));
         }
+        put_word(table, place_of(found.entry), count, out, 0);
+        Ok(count)
     }
 
     // What closing now would put out; the sentence stays open.
@@ -221,17 +161,15 @@ impl Sentence {
     pub fn close(self, table: &[u8], out: &mut [u8], lim: Limits) -> Typed
         ensures { Hands (close lim table.now self (length out.old)) out.old out.new result }
     {
-        let answer = self.put_held(table, out, lim);
-        if let WriteAnswer::Refused(r) = answer {
-            return refuse(self, r);
-        }
-        Typed {
-            sentence: Sentence {
-                state: self.state,
-                given: self.given,
-                closed: true,
+        match self.put_held(table, out, lim) {
+            Ok(held) => Typed {
+                sentence: Sentence {
+                    closed: true,
+                    ..self
+                },
+                answer: Ok(held),
             },
-            answer,
+            Err(given) => refuse(self, given),
         }
     }
 }

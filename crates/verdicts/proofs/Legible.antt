@@ -5,6 +5,7 @@ use mathlib.Core.Path.{◌≡◌, refl, sym, subst}
 use mathlib.Core.Bool.{Bool, true, false, not}
 use mathlib.Core.List.{List}
 use lib.Dec.{eqb, leb}
+use Rattle.std.specs.Prelude.{Option, Some, None, Result, Ok, Err}
 use Rattle.limits.specs.Limits.{most_states, in_range}
 use Rattle.limits.specs.declared.Limits.{Limits}
 use Rattle.answers.specs.Outcome.{Outcome, result, refused, nothing, byte, rule, and_then, provided}
@@ -23,7 +24,6 @@ use Rattle.compilation.specs.Compile.{entries, compile_cascade}
 use Rattle.compilation.proofs.Answer.{Told, fits, exceeds, told, Proper, proper}
 use Rattle.packing.specs.Packed.{Legible}
 use Rattle.checking.specs.Check.{longest_shown, Pair, paired, roomy, checkable, compared, checked, Answers, check_outcome}
-use Rattle.checking.specs.declared.CheckAnswer.{CheckAnswer}
 use Rattle.checking.proofs.Tests.{given}
 
 -- its refusal, if it is one, is
@@ -81,10 +81,10 @@ module _ (lim : Limits) (book : List ℕ) (end : ℕ) (bytes : List ℕ) (work :
       after (compile_cascade most_states p.cascade) _ (of_built p.cascade (proper lim book end p.cascade g.ranged g.reads) (told most_states p.cascade))
       (λ t f. test 11 (leb longest_shown room) _ (omega arith, omega arith, λ e. omega arith) tt))
 
-  pub legible_check : (room : ℕ) (before out : List ℕ) (a : CheckAnswer) → Answers (checked lim book end bytes work room) before out a → Legible (check_outcome a)
-  legible_check room before out CheckAnswer.Same h = omega arith
-  legible_check room before out (CheckAnswer.Differs n) h = omega (arith, h.2.short)
-  legible_check room before out (CheckAnswer.Refused r) h = by r (subst (λ (o : Outcome Pair). ToldWell o) h.0 (of_check room))
+  pub legible_check : (room : ℕ) (before out : List ℕ) (a : Result (Option ℕ) Refusal) → Answers (checked lim book end bytes work room) before out a → Legible (check_outcome a)
+  legible_check room before out (Ok None) h = omega arith
+  legible_check room before out (Ok (Some n)) h = omega (arith, h.2.short)
+  legible_check room before out (Err r) h = by r (subst (λ (o : Outcome Pair). ToldWell o) h.0 (of_check room))
     where
       by : (r : Refusal) → ToldWell {A = Pair} (refusal r) → Legible (refusal r)
       by (AtByte j p) l = l

@@ -5,16 +5,16 @@ ghost use Rattle.std.specs.Prelude.{◌≡◌};
 ghost use Rattle.checking.specs.Check.{check_outcome};
 ghost use Rattle.packing.specs.Packed.{packed, Legible};
 
-use checking::CheckAnswer;
+use answers::Refusal;
 use packing::{pack, pack_refusal};
 
-pub fn pack_check(answer: CheckAnswer) -> u64
+pub fn pack_check(answer: Result<Option<usize>, Refusal>) -> u64
     requires { Legible (check_outcome answer) }
     ensures { result ≡ packed (check_outcome answer) }
 {
     match answer {
-        CheckAnswer::Same => pack(0, 0),
-        CheckAnswer::Differs(n) => pack(n, 0),
-        CheckAnswer::Refused(given) => pack_refusal(given),
+        Ok(None) => pack(0, 0),
+        Ok(Some(n)) => pack(n, 0),
+        Err(given) => pack_refusal(given),
     }
 }

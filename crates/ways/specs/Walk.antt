@@ -1,5 +1,5 @@
 -- What the parts of the walk of a sentence's way through a loaded table promise one another.
-use Rattle.std.specs.Prelude.{ℕ, ◌+◌, ◌≤◌, ◌<◌, ◌≡◌, Bool, true, false, List, ◌++◌, length, take, drop}
+use Rattle.std.specs.Prelude.{ℕ, ◌+◌, ◌≤◌, ◌<◌, ◌≡◌, Bool, true, false, List, ◌++◌, length, take, drop, Option, MatchOption}
 use Rattle.limits.specs.Limits.{most_tags, longest_sentence}
 use Rattle.words.specs.Word.{Below}
 use Rattle.answers.specs.Outcome.{result}
@@ -12,11 +12,10 @@ pub record PutWord (ns : List ℕ) (e : ℕ) (before after : List ℕ) (at to : 
   pub end : to ≡ at + length word
   pub front : take to after ≡ take at before ++ word
 
--- or it ends after n, if it is one
-pub record Put (ns : List ℕ) (e : ℕ) (before after : List ℕ) (at n to : ℕ) : Type 0 where
+-- with no place it ends after n, if it is one; else no later than n
+pub record Put (ns : List ℕ) (e : ℕ) (before after : List ℕ) (at n : ℕ) (to : Option ℕ) : Type 0 where
   pub long : length after ≡ length before
-  pub went : to ≤ n → PutWord ns e before after at to
-  pub stopped : n < to → (w : List ℕ) → word_of ns e ≡ result w → n < at + length w
+  pub ends : MatchOption to ((w : List ℕ) → word_of ns e ≡ result w → n < at + length w) (λ i. (i ≤ n) × PutWord ns e before after at i)
 
 -- a sentence of tags below k, and a buffer for as many tags and three more
 pub record Walkable (k : ℕ) (sentence : List ℕ) (room : ℕ) : Type 0 where

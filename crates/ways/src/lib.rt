@@ -6,55 +6,41 @@ ghost use Rattle.std.proofs.Math.Seq.{paste};
 ghost use Rattle.loaded.specs.Run.{byte_of};
 ghost use Rattle.ways.specs.Walk.{Put, Walkable, Copied, Walked};
 
-use words::{lesser, wide};
-
-// No row begins there: the rest of the sentence is put out as it is.
-const RESTING: usize = 0xffffffff;
-
-fn widened(x: u32) -> usize
-    ensures { (result ≡ x) × (result < 0x100000000) }
-{
-    x as usize
-}
+const RESTING: usize = loaded::RESTING as usize;
 
 pub fn number_at(ns: &[u32], at: usize) -> usize
     requires { at < length ns.now }
     ensures { (result ≡ get_or ns.now at 0) × (result < 0x100000000) }
 {
-    widened(ns[at])
+    ns[at] as usize
 }
 
-// The lowest bytes of so many numbers to the buffer.
-fn put_numbers(ns: &[u32], place: usize, count: usize, buf: &mut [u8], at: usize)
-    requires { (place + count ≤ length ns.now) × (at + count ≤ length buf.old) }
-    ensures { buf.new ≡ paste buf.old at (map byte_of (drop place ns.now)) count }
+// The lowest bytes of numbers to a part of the buffer.
+fn put_numbers(numbers: &[u32], part: &mut [u8])
+    requires { length numbers.now ≡ length part.old }
+    ensures { part.new ≡ map byte_of numbers.now }
 {
-    let mut j = 0;
-    while j < count {
-        buf[at + j] = (ns[place + j] % 0x100) as u8;
-        j += 1;
+    for (i, n) in numbers.iter().enumerate() {
+        part[i] = (*n % 0x100) as u8;
     }
 }
 
-// A word of more than three tags: where it ends in the buffer, or after n if there are not so many numbers, or tags left.
-fn put_long(ns: &[u32], e: usize, buf: &mut [u8], at: usize, n: usize) -> usize
+// A word of more than three tags to the buffer: where it ends, or None if there are not so many numbers, or tags left.
+fn put_long(ns: &[u32], e: usize, buf: &mut [u8], at: usize, n: usize) -> Option<usize>
     requires { (at ≤ n) × (n ≤ length buf.old) × (3 < byte_of e) }
     ensures { Put ns.now e buf.old buf.new at n result }
 {
     let count = e % 0x100;
     let place = e / 0x100;
-    if ns.len() < place + count {
-        return n + 1;
+    if ns.len() < place + count || n - at < count {
+        return None;
     }
-    if n - at < count {
-        return n + 1;
-    }
-    put_numbers(ns, place, count, buf, at);
-    at + count
+    put_numbers(&ns[place..place + count], &mut buf[at..at + count]);
+    Some(at + count)
 }
 
-// A word to the buffer, in which n tags and three more have room: where it ends, or after n.
-fn put(ns: &[u32], e: usize, buf: &mut [u8], at: usize, n: usize) -> usize
+// A word to the buffer, in which n tags and three more have room: where it ends, or None if that is after n.
+fn put(ns: &[u32], e: usize, buf: &mut [u8], at: usize, n: usize) -> Option<usize>
     requires { (at ≤ n) × (n + 3 ≤ length buf.old) }
     ensures { Put ns.now e buf.old buf.new at n result }
 {
@@ -64,7 +50,8 @@ fn put(ns: &[u32], e: usize, buf: &mut [u8], at: usize, n: usize) -> usize
     buf[at] = (e / 0x100 % 0x100) as u8;
     buf[at + 1] = (e / 0x10000 % 0x100) as u8;
     buf[at + 2] = (e / 0x1000000 % 0x100) as u8;
-    at + e % 0x100
+    let to = at + e % 0x100;
+    (to <= n).then_some(to)
 }
 
 // The rest of the sentence to the buffer, if there are as many tags in front.
@@ -75,12 +62,8 @@ fn copy_rest(sentence: &[u8], from: usize, buf: &mut [u8], at: usize) -> bool
     if at != from {
         return false;
     }
-    let count = sentence.len() - from;
-    let mut j = 0;
-    while j < count {
-        buf[at + j] = sentence[from + j];
-        j += 1;
-    }
+    let n = sentence.len();
+    buf[at..n].copy_from_slice(&sentence[from..]);
     true
 }
 
@@ -94,24 +77,22 @@ pub fn walk(ns: &[u32], k: usize, sentence: &[u8], buf: &mut [u8]) -> bool
     if ns.len() <= row {
         return false;
     }
-    let limit = lesser(ns.len() - row + 1, RESTING);
+    let limit = (ns.len() - row + 1).min(RESTING);
     let mut p = 1;
     let mut at = 0;
-    let mut i = 0;
-    while i < n {
-        let c = p + 2 * wide(sentence[i]) + 2;
-        at = put(ns, number_at(ns, c + 1), buf, at, n);
-        if n < at {
+    for i in 0..n {
+        let c = p + 2 * usize::from(sentence[i]) + 2;
+        let Some(to) = put(ns, number_at(ns, c + 1), buf, at, n) else {
             return false;
-        }
+        };
+        at = to;
         p = number_at(ns, c);
-        i += 1;
         if limit <= p {
             if p != RESTING {
                 return false;
             }
-            return copy_rest(sentence, i, buf, at);
+            return copy_rest(sentence, i + 1, buf, at);
         }
     }
-    put(ns, number_at(ns, p), buf, at, n) == n
+    put(ns, number_at(ns, p), buf, at, n) == Some(n)
 }

@@ -16,10 +16,10 @@ use Rattle.transducers.proofs.Lower.{pigeonhole}
 use Rattle.transducers.proofs.Tabulate.{length-tabulate, at-tabulate}
 use Rattle.workspace.specs.declared.Grid.{Grid}
 use Rattle.workspace.specs.Entries.{MEMBER, MARK}
-use Rattle.workspace.specs.Cells.{Kept, Spare, Got, Put, Cleared}
+use Rattle.workspace.specs.Cells.{Kept, Got, Put}
 use Rattle.workspace.proofs.Regions.{kept-none, kept_then, kept_wider, sized-kept, spare_put}
 use Rattle.workspace.proofs.Words.{tabulate-same, tabulate_snoc}
-use Rattle.worklist.specs.Worklist.{member_of, mark_of, listed, ListNotes, Slots, Worklist, Begun, Grown, Entered, Member}
+use Rattle.worklist.specs.Worklist.{member_of, mark_of, listed, ListNotes, Worklist, Grown, Entered, Member}
 
 -- the list as a list
 module _ (g : Grid) (W : List ℕ) (base : ℕ) where
@@ -250,51 +250,3 @@ module _ (g : Grid) (base n : ℕ) where
                   ∙ ap (λ (l : List ℕ). l ++ (s ∷ [])) (listed_same g W Y base len old)
                   ∙ sym (note-out (listed g W base len) s (omega (arith, out, listed-length g W base len)));
             }
-
-  -- the list of 0
-  pub begun : (W X Y Z : List ℕ) → Slots g W base n → Cleared g W X base n MARK n → Put g X Y base g.tags MEMBER 0 → Put g Y Z base g.tags MARK 1
-      → Begun g W Z base n
-  begun W X Y Z ok c p1 p2 =
-      record {
-        kept = kept;
-        list =
-            record {
-              slots =
-                  record { sized = sized-kept g W Z ok.sized kept.long; inside = ok.inside; deep = ok.deep; some = ok.some; small = ok.small };
-              some = omega arith;
-              low = ok.some;
-              start = start;
-              below = λ i h. let e : i ≡ 0 = omega arith in omega (arith, ap (member_of g Z base) e, start, ok.some);
-              marks = λ i h. let e : i ≡ 0 = omega arith in ap (λ (j : ℕ). mark_of g Z base (member_of g Z base j)) e ∙ ap (mark_of g Z base) start ∙ one ∙ omega (arith, e);
-              marked = λ s h has. marked-at s h has (ℕ_discrete s 0);
-            };
-      }
-    where
-      row : base + 0 ≡ base
-      row = omega arith
-
-      kept : Kept g W Z (ListNotes g base n)
-      kept =
-          kept_then g (ListNotes g base n) W X Z
-          (kept_wider g (ListNotes g base n) (Spare g base (base + n) MARK (MARK + 1)) W X c.kept (λ r a e i. (i.0, i.1, i.2, omega (arith, i.3), i.4)))
-          (kept_then g (ListNotes g base n) X Y Z
-          (spare_put g base n MEMBER (MARK + 1) X Y 0 MEMBER 0 ok.some (omega arith) (omega arith) (rw row p1))
-          (spare_put g base n MEMBER (MARK + 1) Y Z 0 MARK 1 ok.some (omega arith) (omega arith) (rw row p2)))
-
-      one : mark_of g Z base 0 ≡ 1
-      one = rw row p2.here
-
-      start : member_of g Z base 0 ≡ 0
-      start = rw row (p2.kept.same base g.tags MEMBER (omega arith) (omega (arith, ok.deep)) (λ q. omega (arith, q.2)) ∙ p1.here)
-
-      marked-at : (s : ℕ) → s < n → (mark_of g Z base s ≡ 0 → ⊥) → Dec (s ≡ 0) → (mark_of g Z base s ≤ 1) × (member_of g Z base (mark_of g Z base s - 1) ≡ s)
-      marked-at s h has (yes e) =
-          let o : mark_of g Z base s ≡ 1 = ap (mark_of g Z base) e ∙ one in
-          let l : mark_of g Z base s - 1 ≡ 0 = omega (arith, o) in
-          (omega (arith, o), ap (member_of g Z base) l ∙ start ∙ sym e)
-      marked-at s h has (no d) =
-          absurd
-          (has
-          (p2.kept.same (base + s) g.tags MARK (omega arith) (omega (arith, ok.deep)) (λ q. d (omega (arith, q.0)))
-          ∙ p1.kept.same (base + s) g.tags MARK (omega arith) (omega (arith, ok.deep)) (λ q. omega (arith, q.2))
-          ∙ c.zero s h))

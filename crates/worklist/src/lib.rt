@@ -19,6 +19,7 @@ pub fn begin(work: &mut [u16], g: Grid, base: usize, n: usize)
     put(work, g, base, g.tags, MARK, 1);
 }
 
+// Stays: a mark is a number, 0 for none, and no Option of a place: the work slice has 16-bit entries (fixed memory).
 // s is appended if it is not there: the length then.
 pub fn enter(work: &mut [u16], g: Grid, base: usize, n: usize, len: usize, s: usize) -> usize
     requires worklist { Worklist g work.old base n len }

@@ -2,13 +2,13 @@
 use Prim.Native.Nat.{ℕ, ◌+◌, ◌-◌, ◌≤◌, ◌<◌}
 use native.Mathlib.Omega.{arith}
 use native.Mathlib.Numerals.{add-one}
-use mathlib.Core.Path.{◌≡◌, refl, sym, ap, ap₂, ◌∙◌}
+use mathlib.Core.Path.{◌≡◌, sym, ap, ap₂, ◌∙◌}
 use mathlib.Core.List.{List, [], ◌∷◌, ◌++◌, append_assoc, append-nil}
 use lib.ListN.{length, get_or, take, drop, length-append, length-drop, drop_of_length-le}
 use lib.Seq.{get_or-take, drop-cons, length-take-le, take_all}
 use Rattle.workspace.specs.declared.Grid.{Grid}
 use Rattle.workspace.specs.Cells.{at, word, Kept, Cell, Written, part}
-use Rattle.workspace.proofs.Regions.{kept-none, kept_then}
+use Rattle.workspace.proofs.Regions.{kept_then}
 use Rattle.workspace.proofs.Words.{word-length}
 
 -- the part of a word from i on, one tag further
@@ -26,9 +26,6 @@ pub record Appending (g : Grid) (W X w : List ℕ) (from to r c s i : ℕ) : Typ
   pub is : word g X r c s ++ part i to w ≡ word g W r c s ++ part from to w
 
 module _ (g : Grid) (W w : List ℕ) (from to r c s : ℕ) (room : to ≤ length w) where
-  pub appending_start : from ≤ to → Appending g W W w from to r c s from
-  appending_start h = record { low = omega arith; high = h; kept = kept-none g (Cell r c s) W; grown = refl; is = refl }
-
   pub appending_next : (X Y : List ℕ) (i tag : ℕ) → Appending g W X w from to r c s i → i < to → tag ≡ get_or w i 0
       → Written g X Y r c s (word g X r c s ++ (tag ∷ [])) → Appending g W Y w from to r c s (i + 1)
   appending_next X Y i tag a h same new =

@@ -9,12 +9,12 @@ use Rattle.words.proofs.Front.{begins_refl, begins_length, begins_whole, meet_le
 use mathlib.Core.Path.{◌≡◌, refl, sym, ap, ap₂, ◌∙◌}
 use mathlib.Core.List.{List, [], ◌∷◌}
 use lib.ListN.{length, get_or, take, drop, drop_of_length-le}
-use lib.Seq.{drop-cons, take_all}
+use lib.Seq.{drop-cons, take_all, get_or-take, length-take-le}
 use Rattle.words.specs.Front.{meet}
 use Rattle.workspace.specs.declared.Grid.{Grid}
 use Rattle.words.specs.Decides.{Decides}
-use Rattle.workspace.specs.Cells.{at, word}
-use Rattle.workspace.proofs.Words.{word-length}
+use Rattle.workspace.specs.Cells.{at, word, Got}
+use Rattle.workspace.proofs.Words.{word-length, word_at}
 
 meet_nil : (u : List ℕ) → meet u [] ≡ []
 meet_nil [] = refl
@@ -27,7 +27,7 @@ meet-apart : (a b : ℕ) (u v : List ℕ) → (a ≡ b → ⊥) → meet (a ∷ 
 meet-apart a b u v e = cc (ne_eqb a b e)
 
 module _ (u v : List ℕ) (from i n : ℕ) (hu : from + i < length u) (hv : i < length v) (sofar : n ≡ i + length (meet (drop (from + i) u) (drop i v))) where
-  pub meet-next : get_or u (from + i) 0 ≡ get_or v i 0 → n ≡ (i + 1) + length (meet (drop (from + (i + 1)) u) (drop (i + 1) v))
+  meet-next : get_or u (from + i) 0 ≡ get_or v i 0 → n ≡ (i + 1) + length (meet (drop (from + (i + 1)) u) (drop (i + 1) v))
   meet-next e =
       let j : from + (i + 1) ≡ suc (from + i) = omega arith in
       omega (
@@ -38,7 +38,7 @@ module _ (u v : List ℕ) (from i n : ℕ) (hu : from + i < length u) (hv : i < 
         ap₂ (λ (a b : ℕ). length (meet (drop a u) (drop b v))) j (add-one i),
       )
 
-  pub meet-ends : (get_or u (from + i) 0 ≡ get_or v i 0 → ⊥) → i ≡ n
+  meet-ends : (get_or u (from + i) 0 ≡ get_or v i 0 → ⊥) → i ≡ n
   meet-ends e =
       omega (
         arith,
@@ -47,12 +47,37 @@ module _ (u v : List ℕ) (from i n : ℕ) (hu : from + i < length u) (hv : i < 
         ap length (meet-apart (get_or u (from + i) 0) (get_or v i 0) (drop (suc (from + i)) u) (drop (suc i) v) e),
       )
 
-pub meet-start : (u v : List ℕ) (from : ℕ) → length (meet (drop from u) v) ≡ 0 + length (meet (drop (from + 0) u) (drop 0 v))
-meet-start u v from = let e : from ≡ from + 0 = omega arith in ap (λ (j : ℕ). length (meet (drop j u) v)) e ∙ (omega arith)
-
-pub meet-whole : (u v : List ℕ) (from i n : ℕ) → length v ≤ i → n ≡ i + length (meet (drop (from + i) u) (drop i v)) → i ≡ n
+meet-whole : (u v : List ℕ) (from i n : ℕ) → length v ≤ i → n ≡ i + length (meet (drop (from + i) u) (drop i v)) → i ≡ n
 meet-whole u v from i n h e =
     omega (arith, e, ap length (ap (meet (drop (from + i) u)) (drop_of_length-le v h) ∙ meet_nil (drop (from + i) u)))
+
+-- a word from a place on and the first `limit` of another, read tag by tag
+module _ (g : Grid) (W : List ℕ) (r c s from r2 c2 s2 limit : ℕ) (in_first : from + limit ≤ at g W r c s) (in_second : limit ≤ at g W r2 c2 s2) where
+  abbrev u : List ℕ
+  u = word g W r c s
+
+  abbrev v : List ℕ
+  v = take limit (word g W r2 c2 s2)
+
+  long : length v ≡ limit
+  long = length-take-le limit (word g W r2 c2 s2) (omega (arith, word-length g W r2 c2 s2))
+
+  module _ (i n tag other : ℕ) (h : i < limit) (got : Got g W r c (s + (from + i) + 1) tag) (got2 : Got g W r2 c2 (s2 + i + 1) other)
+      (sofar : n ≡ i + length (meet (drop (from + i) u) (drop i v))) where
+    tag_is : tag ≡ get_or u (from + i) 0
+    tag_is = got.is ∙ sym (word_at g W r c s (from + i) (omega arith))
+
+    other_is : other ≡ get_or v i 0
+    other_is = got2.is ∙ sym (get_or-take limit (word g W r2 c2 s2) i 0 h ∙ word_at g W r2 c2 s2 i (omega arith))
+
+    pub front_next : tag ≡ other → n ≡ (i + 1) + length (meet (drop (from + (i + 1)) u) (drop (i + 1) v))
+    front_next e = meet-next u v from i n (omega (arith, word-length g W r c s)) (omega (arith, long)) sofar (sym tag_is ∙ e ∙ other_is)
+
+    pub front_ends : (tag ≡ other → ⊥) → i ≡ n
+    front_ends d = meet-ends u v from i n (omega (arith, word-length g W r c s)) (omega (arith, long)) sofar (λ e. d (tag_is ∙ e ∙ sym other_is))
+
+  pub front_whole : (i n : ℕ) → limit ≡ i → n ≡ i + length (meet (drop (from + i) u) (drop i v)) → limit ≡ n
+  front_whole i n e sofar = e ∙ meet-whole u v from i n (omega (arith, long)) sofar
 
 -- words are equal if they are as long as their common front
 pub words_decided : (g : Grid) (W : List ℕ) (r c s r2 c2 s2 n m : ℕ) → n ≡ at g W r c s → n ≡ at g W r2 c2 s2

@@ -16,7 +16,7 @@ use Rattle.workspace.specs.declared.Grid.{Grid}
 use Rattle.workspace.specs.Entries.{NEXT, OUTPUT, FINAL}
 use Rattle.workspace.specs.Cells.{word, Kept, InRows, Entry, Cell, Put, Written, Fits}
 use Rattle.workspace.specs.Holds.{StepAt, Stepped, RowAt, Rowed, Roomy, Holds, Stepping, Filling, shape_at, table_at}
-use Rattle.workspace.proofs.Regions.{kept-none, kept_then, kept_wider}
+use Rattle.workspace.proofs.Regions.{kept-none, kept_then, kept_wider, kept_cell}
 use Rattle.workspace.proofs.Words.{word-length, word_kept}
 
 module _ (g : Grid) (P : ℕ → ℕ → ℕ → Type 0) (W X : List ℕ) (k : Kept g W X P) where
@@ -56,19 +56,7 @@ module _ (g : Grid) (P : ℕ → ℕ → ℕ → Type 0) (W X : List ℕ) (k : K
         states = λ q hq. row_kept (shape t) h.roomy (base + q) q hq (h.states q hq) (λ a e. out-steps q a e hq) (λ e. out-final q e hq);
       }
 
--- a next state and an output make a step
-pub stepped : (g : Grid) (W X Y : List ℕ) (r a next : ℕ) (output : List ℕ) → a < g.tags → 0 < g.depth
-    → Put g W X r a NEXT next → Written g X Y r a OUTPUT output → Stepped g W Y r a next output
-stepped g W X Y r a next output ha hd p w =
-    record {
-      kept =
-          kept_then g (Cell r a NEXT) W X Y
-          (kept_wider g (Cell r a NEXT) (Entry r a NEXT) W X p.kept (λ r' c' e' i. (i.0, i.1, omega arith)))
-          (kept_wider g (Cell r a NEXT) (Cell r a OUTPUT) X Y w.kept (λ r' c' e' i. (i.0, i.1, omega arith)));
-      step = record { next_is = w.kept.same r a NEXT (omega arith) hd (λ i. omega (arith, i.2)) ∙ p.here; output_is = w.here };
-    }
-
--- in the other order
+-- an output and a next state make a step
 pub stepped-after : (g : Grid) (W X Y : List ℕ) (r a next : ℕ) (output : List ℕ) → a < g.tags → length output + 1 < g.depth
     → Written g W X r a OUTPUT output → Put g X Y r a NEXT next → Stepped g W Y r a next output
 stepped-after g W X Y r a next output ha hd w p =
@@ -76,7 +64,7 @@ stepped-after g W X Y r a next output ha hd w p =
       kept =
           kept_then g (Cell r a NEXT) W X Y
           (kept_wider g (Cell r a NEXT) (Cell r a OUTPUT) W X w.kept (λ r' c' e' i. (i.0, i.1, omega arith)))
-          (kept_wider g (Cell r a NEXT) (Entry r a NEXT) X Y p.kept (λ r' c' e' i. (i.0, i.1, omega arith)));
+          (kept_cell g r a NEXT NEXT X Y (omega arith) p.kept);
       step =
           record {
             next_is = p.here;

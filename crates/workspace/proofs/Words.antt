@@ -2,15 +2,15 @@
 use Prim.Native.Nat.{ℕ, zero, suc, ◌+◌, ◌≤◌, ◌<◌}
 use native.Mathlib.Omega.{arith}
 use native.Mathlib.Numerals.{add-one}
-use mathlib.Core.Path.{◌≡◌, sym, ap, ap₂, ◌∙◌}
+use mathlib.Core.Path.{◌≡◌, refl, sym, ap, ap₂, ◌∙◌}
 use mathlib.Core.List.{List, [], ◌∷◌, ◌++◌}
 use lib.ListN.{length, get_or, length-append}
 use lib.Seq.{ext_get_or}
 use Rattle.transducers.specs.Tabulate.{tabulate}
 use Rattle.transducers.proofs.Tabulate.{length-tabulate, get_or-tabulate}
 use Rattle.workspace.specs.declared.Grid.{Grid}
-use Rattle.workspace.specs.Cells.{at, word, Inner, Kept, Entry, Cell, Got, Put, Written}
-use Rattle.workspace.proofs.Regions.{kept_then, kept_wider}
+use Rattle.workspace.specs.Cells.{at, word, Inner, Kept, Cell, Got, Put, Written}
+use Rattle.workspace.proofs.Regions.{kept-none, kept_then, kept_cell}
 
 pub tabulate-same : (n i : ℕ) (f h : ℕ → ℕ) → ((e : ℕ) → i ≤ e → e < i + n → f e ≡ h e) → tabulate n i f ≡ tabulate n i h
 tabulate-same n i f h all =
@@ -50,7 +50,7 @@ module _ (g : Grid) where
   unfolding word
   word_clear W X r c s a =
       record {
-        kept = kept_wider g (Cell r c s) (Entry r c s) W X a.kept (λ r' c' e' p. (p.0, p.1, omega (arith, p.2)));
+        kept = kept_cell g r c s s W X (omega arith) a.kept;
         here = ap (λ (m : ℕ). tabulate m (suc s) (at g X r c)) a.here;
         size = a.here;
       }
@@ -63,8 +63,8 @@ module _ (g : Grid) where
       record {
         kept =
             kept_then g (Cell r c s) W X Y
-            (kept_wider g (Cell r c s) (Entry r c (s + n + 1)) W X a.kept (λ r' c' e' p. (p.0, p.1, omega (arith, p.2))))
-            (kept_wider g (Cell r c s) (Entry r c s) X Y b.kept (λ r' c' e' p. (p.0, p.1, omega (arith, p.2))));
+            (kept_cell g r c s (s + n + 1) W X (omega arith) a.kept)
+            (kept_cell g r c s s X Y (omega arith) b.kept);
         here =
             ap (λ (m : ℕ). tabulate m (suc s) (at g Y r c)) (b.here ∙ add-one n)
             ∙ tabulate_snoc n (suc s) (at g Y r c)
@@ -82,11 +82,12 @@ module _ (g : Grid) where
           let e : suc s + n ≡ s + n + 1 = omega arith in
           ap (at g Y r c) e ∙ b.kept.same r c (s + n + 1) hc room (λ p. omega (arith, p.2)) ∙ a.here
 
+-- a cell keeps its word
+pub written_same : (g : Grid) (W : List ℕ) (r c s : ℕ) → Written g W W r c s (word g W r c s)
+written_same g W r c s = record { kept = kept-none g (Cell r c s) W; here = refl; size = sym (word-length g W r c s) }
+
 -- one word after another
 module _ (g : Grid) (W X : List ℕ) (r c s : ℕ) where
-  pub more-size : (v : List ℕ) → Written g W X r c s (word g W r c s ++ v) → at g X r c s ≡ at g W r c s + length v
-  more-size v a = omega (arith, a.size, length-append (word g W r c s) v, word-length g W r c s)
-
   pub written-more : (Y w v : List ℕ) → Written g W X r c s w → Written g X Y r c s (word g X r c s ++ v) → Written g W Y r c s (w ++ v)
   written-more Y w v a b =
       record {

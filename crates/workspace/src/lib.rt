@@ -41,15 +41,10 @@ pub struct Grid {
 fn index_of(g: Grid, r: usize, c: usize, e: usize) -> usize
     requires fact { In g r c e }
     requires depth_bound { g.rows * (g.tags + 1) * g.depth < 2 ^ 64 }
-    ensures { result ≡ ix g r c e }
+    ensures value { result ≡ ix g r c e }
+    ensures below { result < g.rows * (g.tags + 1) * g.depth }
 {
     (r * (g.tags + 1) + c) * g.depth + e
-}
-
-fn wide(x: u16) -> usize
-    ensures { (result ≡ x) × (result < 65536) }
-{
-    x as usize
 }
 
 pub fn get(work: &[u16], g: Grid, r: usize, c: usize, e: usize) -> usize
@@ -58,7 +53,7 @@ pub fn get(work: &[u16], g: Grid, r: usize, c: usize, e: usize) -> usize
     ensures { Got g work.now r c e result }
 {
     let i = index_of(g, r, c, e);
-    wide(work[i])
+    usize::from(work[i])
 }
 
 pub fn put(work: &mut [u16], g: Grid, r: usize, c: usize, e: usize, v: usize)
@@ -77,10 +72,8 @@ pub fn clear_notes(work: &mut [u16], g: Grid, base: usize, n: usize, e: usize)
     requires n_bound { (base + n ≤ g.rows) × (e < g.depth) }
     ensures { Cleared g work.old work.new base n e n }
 {
-    let mut q = 0;
-    while q < n {
+    for q in 0..n {
         put(work, g, base + q, g.tags, e, 0);
-        q += 1;
     }
 }
 
@@ -124,11 +117,9 @@ pub fn append(
     requires r2_lt_rows { (r2 < g.rows) × (c2 < g.tags + 1) × ((r ≡ r2) → (c ≡ c2) → ⊥) }
     ensures { Written g work.old work.new r2 c2 s2 (word g work.old r2 c2 s2 ++ part from to (word g work.old r c s)) }
 {
-    let mut i = from;
-    while i < to {
+    for i in from..to {
         let tag = get(work, g, r, c, s + i + 1);
         push(work, g, r2, c2, s2, tag);
-        i += 1;
     }
 }
 
@@ -143,11 +134,9 @@ pub fn drop_front(work: &mut [u16], g: Grid, r: usize, c: usize, s: usize, n: us
         return;
     }
     let len = get(work, g, r, c, s);
-    let mut i = n;
-    while i < len {
+    for i in n..len {
         let tag = get(work, g, r, c, s + i + 1);
         put(work, g, r, c, s + (i - n) + 1, tag);
-        i += 1;
     }
     put(work, g, r, c, s, len - n);
 }
@@ -192,16 +181,14 @@ pub fn common(
     requires limit_bound { (from + limit ≤ at g work.now r c s) × (limit ≤ at g work.now r2 c2 s2) }
     ensures { result ≡ length (meet (drop from (word g work.now r c s)) (take limit (word g work.now r2 c2 s2))) }
 {
-    let mut i = 0;
-    while i < limit {
+    for i in 0..limit {
         let tag = get(work, g, r, c, s + (from + i) + 1);
         let other = get(work, g, r2, c2, s2 + i + 1);
         if tag != other {
             return i;
         }
-        i += 1;
     }
-    i
+    limit
 }
 
 // Whether two words are equal.
@@ -225,4 +212,12 @@ pub fn same_words(
         return false;
     }
     common(work, g, r, c, s, 0, r2, c2, s2, n) == n
+}
+
+// So many states in the rows from a base on.
+#[derive(Clone, Copy)]
+pub struct Part {
+    pub grid: Grid,
+    pub base: usize,
+    pub states: usize,
 }

@@ -1,4 +1,3 @@
-use Prim.Native.Nat.{◌-◌, ◌≤◌}
 use mathlib.Core.Path.{◌≡◌}
 use lib.ListN.{length, take}
 use Rattle.limits.specs.Limits.{most_tags}
@@ -7,7 +6,4 @@ use Rattle.alive.specs.Alive.{Masks}
 use Rattle.alive.proofs.masks_of.Given as goal
 
 abbrev pub invariant-loop-a : goal.invariant-loop-a
-invariant-loop-a l = (l.a ≤ l.tags) × (length l.masks ≡ most_tags) × Masks (places l.u (take l.n l.sets)) l.a l.masks
-
-abbrev pub decreases-loop-a : goal.decreases-loop-a
-decreases-loop-a l = l.tags - l.a
+invariant-loop-a l = (length l.masks ≡ most_tags) × Masks (places l.u (take l.n l.sets)) l.a l.masks

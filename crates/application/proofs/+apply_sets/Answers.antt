@@ -5,7 +5,7 @@ use mathlib.Core.Path.{◌≡◌, refl, ◌∙◌}
 use lib.ListN.{length}
 use Rattle.cascades.specs.Rule.{Rule}
 use Rattle.cascades.specs.Rewrite.{apply, apply_all}
-use Rattle.books.specs.Arrays.{Arrays, holding, rule_at, rules_of}
+use Rattle.books.specs.Arrays.{Arrays, arrays, rule_at, rules_of}
 use Rattle.traces.specs.Trace.{beside, mark, trace_from}
 use Rattle.application.proofs.Rules.{rule_alone, number_alone, rule-next, number-next, changes_at}
 use Rattle.application.proofs.+apply_sets.Goals as goal
@@ -14,7 +14,7 @@ use Rattle.application.proofs.+apply_sets.Goals.{After-rule_at-rule}
 -- the last rule
 module _ (t : ℕ) (c : After-rule_at-rule t) where
   abbrev rules : Arrays
-  rules = holding c.args.rows.now c.args.lengths.now c.args.heads.now c.args.sets.now
+  rules = arrays c.args.rules.now c.args.sets.now
 
   abbrev i : ℕ
   i = c.args.m - 1

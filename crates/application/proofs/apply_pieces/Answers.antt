@@ -18,7 +18,7 @@ use Rattle.application.proofs.apply_pieces.Goals.{After-apply_first-from}
 -- one piece more
 module _ (c : After-apply_first-from) where
   abbrev rules : List Rule
-  rules = rules_in c.args.rows.now c.args.lengths.now c.args.heads.now c.args.sets.now c.args.m
+  rules = rules_in c.args.rules.now c.args.sets.now c.args.m
 
   abbrev from : ℕ
   from = c.loop-from.from
@@ -30,7 +30,7 @@ module _ (c : After-apply_first-from) where
   v = c.loop-from.v
 
   abbrev noted : ℕ
-  noted = c.lesser-noted.result
+  noted = c.min-noted.result
 
   abbrev made : List ℕ
   made = c.apply_first-from.new.s
@@ -49,7 +49,7 @@ module _ (c : After-apply_first-from) where
   numbers beside =
       let inv = c.loop-from.invariant in
       let as_long : length v ≡ length s = omega (arith, beside, inv.1, inv.0.long) in
-      let there : noted ≡ from = omega (arith, c.lesser-noted.ensures, as_long, inv.0.inside) in
+      let there : noted ≡ from = omega (arith, c.min-noted.ensures, as_long, inv.0.inside) in
       let lent : length (take (length v - noted) (drop noted v)) ≡ length (take (length s - from) (drop from s)) =
       lent_long v noted (omega (arith, there, as_long, inv.0.inside)) ∙ ap₂ (λ (i j : ℕ). i - j) as_long there ∙ sym (lent_long s from inv.0.inside)
       in
@@ -65,12 +65,12 @@ pub returns-clause-s : goal.returns-clause-s
 returns-clause-s c =
     let a = c.args in
     let l = c.loop-from in
-    let rules = rules_in a.rows.now a.lengths.now a.heads.now a.sets.now a.m in
+    let rules = rules_in a.rules.now a.sets.now a.m in
     begun_all (making rules a.end) a.s.now l.s l.s l.from (piecewise-nothing a.end (apply_all rules) (apply_all-long rules)) (omega (arith, l.invariant.0.inside)) l.invariant.0
 
 pub returns-clause-v : goal.returns-clause-v
 returns-clause-v c beside =
     let a = c.args in
     let l = c.loop-from in
-    let rules = rules_in a.rows.now a.lengths.now a.heads.now a.sets.now a.m in
+    let rules = rules_in a.rules.now a.sets.now a.m in
     begun_all (numbering rules a.end) a.s.now l.s l.v l.from (piecewise-nothing a.end (numbers_of rules) (numbers-long rules)) (omega (arith, l.invariant.0.inside)) (l.invariant.2 beside)

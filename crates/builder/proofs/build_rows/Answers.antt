@@ -9,14 +9,14 @@ use Rattle.cascades.specs.Value.{rule_of}
 use Rattle.cascades.specs.Ending.{misused}
 use Rattle.minimal.specs.OneRule.{one_rule}
 use Rattle.addition.specs.Addition.{Added}
-use Rattle.books.specs.Arrays.{Arrays, holding}
+use Rattle.books.specs.Arrays.{Arrays, arrays}
 use Rattle.builder.specs.Rules.{Compilable}
 use Rattle.builder.proofs.Progress.{used, begun, progress_start, states_fit, addable, progress_next, too_many, kept_too_many, all-kept, all_done}
 use Rattle.builder.proofs.build_rows.Goals as goal
 use Rattle.builder.proofs.build_rows.Goals.{Start}
 
 abbrev the_arrays : Start → Arrays
-the_arrays st = holding st.args.rows.now st.args.lengths.now st.args.heads.now st.args.sets.now
+the_arrays st = arrays st.args.rules.now st.args.sets.now
 
 -- after the identity's row
 now_ok : (c : Start) (X : List ℕ) → length X ≡ length c.args.work.now → Compilable c.args.lim c.args.g X c.args.ceiling c.args.states c.args.end c.args.m (the_arrays c)
@@ -37,28 +37,25 @@ add_rule-count-requires-clause-addable c = let w = c.write_identity in
 pub returns-then-ceiling-count-clause-built : goal.returns-then-ceiling-count-clause-built
 returns-then-ceiling-count-clause-built c = let w = c.write_identity in
     let l = c.loop-i in
-    let less = c.loop-i-test.true in
     let r = c.rule_at-rule in
     let u = c.add_rule-count in
-    let added = subst (λ (x : Rule). Added c.args.g l.work u.new.work l.n c.args.ceiling c.args.end x u.result) r.ensures.0 u.ensures in too_many c.args.g w.new.work c.args.ceiling c.args.end c.args.m (the_arrays (goal.at.returns-then-ceiling-count-clause-built c).Start) (now_ok (goal.at.returns-then-ceiling-count-clause-built c).Start w.new.work w.ensures.kept.long) l.work l.i l.n l.invariant (omega (arith, less)) u.new.work u.result added (omega arith)
+    let added = subst (λ (x : Rule). Added c.args.g l.work u.new.work l.n c.args.ceiling c.args.end x u.result) r.ensures.0 u.ensures in too_many c.args.g w.new.work c.args.ceiling c.args.end c.args.m (the_arrays (goal.at.returns-then-ceiling-count-clause-built c).Start) (now_ok (goal.at.returns-then-ceiling-count-clause-built c).Start w.new.work w.ensures.kept.long) l.work l.i l.n l.invariant (omega arith) u.new.work u.result added (omega arith)
 
 pub returns-then-ceiling-count-clause-kept : goal.returns-then-ceiling-count-clause-kept
 returns-then-ceiling-count-clause-kept c = let w = c.write_identity in
     let l = c.loop-i in
-    let less = c.loop-i-test.true in
     let r = c.rule_at-rule in
     let u = c.add_rule-count in
     let added = subst (λ (x : Rule). Added c.args.g l.work u.new.work l.n c.args.ceiling c.args.end x u.result) r.ensures.0 u.ensures in all-kept c.args.g c.args.work.now w.new.work u.new.work (omega (arith, c.requires.rows, c.requires.states_are, c.requires.readable.some)) w.ensures.kept
-    (kept_too_many c.args.g w.new.work c.args.ceiling c.args.end c.args.m (the_arrays (goal.at.returns-then-ceiling-count-clause-kept c).Start) (now_ok (goal.at.returns-then-ceiling-count-clause-kept c).Start w.new.work w.ensures.kept.long) l.work l.i l.n l.invariant (omega (arith, less)) u.new.work u.result added)
+    (kept_too_many c.args.g w.new.work c.args.ceiling c.args.end c.args.m (the_arrays (goal.at.returns-then-ceiling-count-clause-kept c).Start) (now_ok (goal.at.returns-then-ceiling-count-clause-kept c).Start w.new.work w.ensures.kept.long) l.work l.i l.n l.invariant (omega arith) u.new.work u.result added)
 
 pub loop-i-preserved : goal.loop-i-preserved
 loop-i-preserved c = let w = c.write_identity in
     let l = c.loop-i in
-    let less = c.loop-i-test.true in
     let r = c.rule_at-rule in
     let u = c.add_rule-count in
     let added = subst (λ (x : Rule). Added c.args.g l.work u.new.work l.n c.args.ceiling c.args.end x u.result) r.ensures.0 u.ensures in
-    progress_next c.args.g w.new.work c.args.ceiling c.args.end c.args.m (the_arrays (goal.at.loop-i-preserved c).Start) (now_ok (goal.at.loop-i-preserved c).Start w.new.work w.ensures.kept.long) l.work l.i l.n l.invariant (omega (arith, less)) u.new.work u.result added (omega arith)
+    progress_next c.args.g w.new.work c.args.ceiling c.args.end c.args.m (the_arrays (goal.at.loop-i-preserved c).Start) (now_ok (goal.at.loop-i-preserved c).Start w.new.work w.ensures.kept.long) l.work l.i l.n l.invariant (omega arith) u.new.work u.result added (omega arith)
 
 pub returns-clause-built : goal.returns-clause-built
 returns-clause-built c = let w = c.write_identity in

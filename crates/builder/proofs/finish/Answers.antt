@@ -24,9 +24,9 @@ measure-size-requires c = writable c.args.g c.args.work.now c.args.n c.requires.
 pub returns-then-out-size : goal.returns-then-out-size
 returns-then-out-size c = too_short (bytes (goal.at.returns-then-out-size c).Start) c.args.out.now (omega (arith, c.measure-size.ensures, same (goal.at.returns-then-out-size c).Start)) _ refl
 
-pub write_table-end-requires-clause-writable : goal.write_table-end-requires-clause-writable
-write_table-end-requires-clause-writable c = writable c.args.g c.args.work.now c.args.n c.requires.ready c.requires.tags_bound.0 c.requires.tags_bound.1
+pub write_table-requires-clause-writable : goal.write_table-requires-clause-writable
+write_table-requires-clause-writable c = writable c.args.g c.args.work.now c.args.n c.requires.ready c.requires.tags_bound.0 c.requires.tags_bound.1
 
 pub returns : goal.returns
 returns c = fits (bytes (goal.at.returns c).Start) c.args.out.now _ _ (omega (arith, c.measure-size.ensures, same (goal.at.returns c).Start))
-    (rw (← rows_in_lem c.args.g c.args.work.now 0 c.args.n) c.write_table-end.ensures)
+    (rw (← rows_in_lem c.args.g c.args.work.now 0 c.args.n) c.write_table.ensures)

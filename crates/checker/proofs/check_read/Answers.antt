@@ -5,7 +5,7 @@ use mathlib.Core.List.{◌++◌}
 use lib.ListN.{drop, replicate}
 use Rattle.limits.specs.Work.{rule_states}
 use Rattle.cascades.specs.Rule.{some_has_set}
-use Rattle.books.specs.Arrays.{Arrays, holding, rules_of}
+use Rattle.books.specs.Arrays.{Arrays, arrays, rules_of}
 use Rattle.workspace.specs.declared.Grid.{Grid}
 use Rattle.compiler.proofs.Reading.{compilable, with_end}
 use Rattle.checker.specs.Ended.{Given}
@@ -15,10 +15,10 @@ use Rattle.checker.proofs.check_read.Goals.{After-rule_states-states, Start}
 
 -- `checker::check_read` meets its contract.
 abbrev the_arrays : Start → Arrays
-the_arrays st = holding st.args.rows.now st.args.lengths.now st.args.heads.now st.args.sets.now
+the_arrays st = arrays st.args.rules.now st.args.sets.now
 
 -- the states of the book's rules
-states_are : (c : After-rule_states-states) → c.rule_states-states.result ≡ rule_states c.args.lim (some_has_set (rules_of (holding c.args.rows.now c.args.lengths.now c.args.heads.now c.args.sets.now) c.args.m))
+states_are : (c : After-rule_states-states) → c.rule_states-states.result ≡ rule_states c.args.lim (some_has_set (rules_of (arrays c.args.rules.now c.args.sets.now) c.args.m))
 states_are c = c.rule_states-states.ensures ∙ ap (rule_states c.args.lim) c.some_set-some.ensures
 
 pub returns-then-work-entries : goal.returns-then-work-entries
@@ -29,8 +29,8 @@ returns-then-work-entries c = let g = c.grid_of-g in
 pub check_built-answer-requires : goal.check_built-answer-requires
 check_built-answer-requires c = let g = c.grid_of-g in
     let n = c.entries_of-entries in
-    let l = c.wide-last in
-    let fits = with_end c.args.lim c.args.k 256 c.args.end c.args.m (the_arrays (goal.at.check_built-answer-requires c).Start) _ (states_are (goal.at.check_built-answer-requires c).After-rule_states-states) g.result g.ensures c.requires.m_value l.result l.ensures.0 in (
+    let l = c.from-last in
+    let fits = with_end c.args.lim c.args.k 256 c.args.end c.args.m (the_arrays (goal.at.check_built-answer-requires c).Start) _ (states_are (goal.at.check_built-answer-requires c).After-rule_states-states) g.result g.ensures c.requires.m_value l.result l.ensures in (
       compilable c.args.lim c.args.k 256 c.args.m (the_arrays (goal.at.check_built-answer-requires c).Start) c.requires.readable.0 _ (states_are (goal.at.check_built-answer-requires c).After-rule_states-states) g.result g.ensures l.result c.args.work.now fits (omega (arith, n.ensures, c.if-work-entries.false)),
       subst (λ (i : ℕ). Given c.args.lim c.args.table.now i c.args.s c.args.index.now) (sym (ap (λ (h : Grid). h.tags) g.ensures)) c.requires.readable.1,
     )
@@ -38,8 +38,8 @@ check_built-answer-requires c = let g = c.grid_of-g in
 pub returns : goal.returns
 returns c = let g = c.grid_of-g in
     let n = c.entries_of-entries in
-    let l = c.wide-last in
+    let l = c.from-last in
     let u = c.check_built-answer in
-    read-ended c.args.lim c.args.table.now c.args.k c.args.end c.args.m (the_arrays (goal.at.returns c).Start) _ (states_are (goal.at.returns c).After-rule_states-states) g.result g.ensures l.result l.ensures.0
+    read-ended c.args.lim c.args.table.now c.args.k c.args.end c.args.m (the_arrays (goal.at.returns c).Start) _ (states_are (goal.at.returns c).After-rule_states-states) g.result g.ensures l.result l.ensures
     c.args.work.now u.new.work _ c.args.out.now _ _ (omega (arith, n.ensures, c.if-work-entries.false)) u.ensures.said u.ensures.kept
     (c.wipe.ensures ∙ ap (λ (i : ℕ). replicate i 0 ++ drop i u.new.work) n.ensures)

@@ -8,17 +8,15 @@ pub returns-then-not-accepts : goal.returns-then-not-accepts
 returns-then-not-accepts c = let l = c.loop-j in
     let a = c.args in
     sym (fits-stops a.u.now (take a.n a.sets.now) a.s.now a.i l.j (omega arith) (omega arith) c.set_at-set.result c.set_at-set.ensures
-    (sym (c.if-not-accepts.true) ∙ c.accepts.ensures)) ∙ l.invariant.1
+    (sym (c.if-not-accepts.true) ∙ c.accepts.ensures)) ∙ l.invariant
 
 pub loop-j-preserved : goal.loop-j-preserved
 loop-j-preserved c = let l = c.loop-j in
-    let a = c.args in (
-      omega arith,
-      sym (fits_next a.u.now (take a.n a.sets.now) a.s.now a.i l.j (omega arith) (omega arith) c.set_at-set.result c.set_at-set.ensures
-          (sym (c.if-not-accepts.false) ∙ c.accepts.ensures)) ∙ l.invariant.1,
-    )
+    let a = c.args in
+    sym (fits_next a.u.now (take a.n a.sets.now) a.s.now a.i l.j (omega arith) (omega arith) c.set_at-set.result c.set_at-set.ensures
+    (sym (c.if-not-accepts.false) ∙ c.accepts.ensures)) ∙ l.invariant
 
 pub returns : goal.returns
 returns c = let a = c.args in
     let l = c.loop-j in
-    all_fit a.u.now (take a.n a.sets.now) a.s.now a.i l.j (omega arith) ∙ l.invariant.1
+    all_fit a.u.now (take a.n a.sets.now) a.s.now a.i l.j (omega arith) ∙ l.invariant

@@ -15,4 +15,4 @@ pub returns : goal.returns
 returns c = let a = c.args in
     let l = c.loop-i in
     part_none (places a.u.now (take a.n a.sets.now)) a.s.now a.from (omega (arith, c.requires.0, places-length a.u.now (take a.n a.sets.now))) l.i
-    (omega (arith, places-length a.u.now (take a.n a.sets.now))) l.invariant.1
+    (omega (arith, places-length a.u.now (take a.n a.sets.now))) l.invariant

@@ -1,4 +1,4 @@
-use Prim.Native.Nat.{ℕ, ◌+◌, ◌-◌, ◌≤◌, ◌<◌}
+use Prim.Native.Nat.{ℕ, ◌+◌, ◌<◌}
 use mathlib.Core.Path.{◌≡◌}
 use mathlib.Core.Bool.{false}
 use lib.ListN.{take, drop}
@@ -7,7 +7,4 @@ use Rattle.cascades.specs.Value.{places}
 use Rattle.classes.proofs.find.Given as goal
 
 abbrev pub invariant-loop-i : goal.invariant-loop-i
-invariant-loop-i l = (l.i ≤ l.places) × ((j : ℕ) → j < l.i → fits (places l.u (take l.n l.sets)) (drop (l.from + j) l.s) ≡ false)
-
-abbrev pub decreases-loop-i : goal.decreases-loop-i
-decreases-loop-i l = l.places - l.i
+invariant-loop-i l = (j : ℕ) → j < l.i → fits (places l.u (take l.n l.sets)) (drop (l.from + j) l.s) ≡ false

@@ -8,8 +8,8 @@ few i h = pow-le-pow_right {n = 0x100} (omega arith) {i = i} {j = 5} (omega arit
 
 pub overflow_mul-set : goal.overflow_mul-set
 overflow_mul-set c =
-    let l = c.loop-i in omega (arith, l.invariant.2, few l.i (omega arith))
+    let l = c.loop-i in omega (arith, l.invariant.1, few l.i (omega arith))
 
 pub overflow_add-set : goal.overflow_add-set
 overflow_add-set c =
-    let l = c.loop-i in omega (arith, l.invariant.2, few l.i (omega arith), c.set_byte.ensures.1)
+    let l = c.loop-i in omega (arith, l.invariant.1, few l.i (omega arith), c.set_byte.ensures.1)

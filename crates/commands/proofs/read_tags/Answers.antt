@@ -12,6 +12,8 @@ use Rattle.books.specs.Resume.{read_tags}
 use Rattle.books.proofs.Commands.{tag_too_many, tag_missing, tag-high, tag-taken}
 use Rattle.books.proofs.Resume.{tags-refused}
 use Rattle.books.proofs.SoFar.{plain_more}
+use Rattle.answers.specs.declared.Reason.TheVariants.{BadCommand, BadPattern, BadTag}
+use Rattle.answers.specs.declared.Refusal.TheVariants.{AtByte}
 use Rattle.commands.proofs.read_tags.Goals as goal
 use Rattle.commands.proofs.read_tags.Goals.{Start}
 
@@ -24,7 +26,7 @@ returns-then-most-n c =
     let l = c.loop-at in
     let s = c.args.s.now in
     let is : get_or s l.at 0 ≡ 0x22 = search rules in
-    tags-refused s c.args.from c.args.k c.args.most l.row l.invariant.3 3 l.at
+    tags-refused s c.args.from c.args.k c.args.most l.row l.invariant.3 (AtByte BadPattern l.at)
     (λ lim r rs e. l.invariant.4 lim r rs e ∙ tag_too_many lim s c.args.k r rs (plain (take l.n l.row)) l.at (omega arith) is (omega (arith, tags (goal.at.returns-then-most-n c).Start l.row l.n l.invariant.2 l.invariant.3)))
 
 pub returns-then-s-byte : goal.returns-then-s-byte
@@ -32,7 +34,7 @@ returns-then-s-byte c =
     let l = c.loop-at in
     let s = c.args.s.now in
     let is : get_or s l.at 0 ≡ 0x22 = search rules in
-    tags-refused s c.args.from c.args.k c.args.most l.row l.invariant.3 1 (l.at + 1)
+    tags-refused s c.args.from c.args.k c.args.most l.row l.invariant.3 (AtByte BadCommand (l.at + 1))
     (λ lim r rs e. l.invariant.4 lim r rs e ∙ tag_missing lim s c.args.k r rs (plain (take l.n l.row)) l.at (omega arith) is (omega (arith, tags (goal.at.returns-then-s-byte c).Start l.row l.n l.invariant.2 l.invariant.3)) (omega arith))
 
 pub returns-then-k-tag : goal.returns-then-k-tag
@@ -40,7 +42,7 @@ returns-then-k-tag c =
     let l = c.loop-at in
     let s = c.args.s.now in
     let is : get_or s l.at 0 ≡ 0x22 = search rules in
-    tags-refused s c.args.from c.args.k c.args.most l.row l.invariant.3 4 (l.at + 1)
+    tags-refused s c.args.from c.args.k c.args.most l.row l.invariant.3 (AtByte BadTag (l.at + 1))
     (λ lim r rs e. l.invariant.4 lim r rs e ∙ tag-high lim s c.args.k r rs (plain (take l.n l.row)) l.at (omega arith) is (omega (arith, tags (goal.at.returns-then-k-tag c).Start l.row l.n l.invariant.2 l.invariant.3)) (omega arith) (omega arith))
 
 pub loop-at-preserved : goal.loop-at-preserved

@@ -6,7 +6,7 @@ use Rattle.comparing.proofs.put_left.Goals as goal
 
 pub put_cells-requires-clause-sized : goal.put_cells-requires-clause-sized
 put_cells-requires-clause-sized c = let a = c.args in
-    let more = c.excess-ahead in
+    let more = c.saturating_sub-ahead in
     let held = c.get in
     let entry = c.entry_of in
     let count = c.count_of-held in
@@ -14,14 +14,14 @@ put_cells-requires-clause-sized c = let a = c.args in
 
 pub put_cells-requires-clause-count_bound : goal.put_cells-requires-clause-count_bound
 put_cells-requires-clause-count_bound c = let a = c.args in
-    let more = c.excess-ahead in
+    let more = c.saturating_sub-ahead in
     let held = c.get in
     let entry = c.entry_of in
     let count = c.count_of-held in
     let room = left-room c.requires entry.result count.result held.result entry.ensures count.ensures.0 held.ensures.is more.result more.ensures in (omega (arith, more.ensures, held.ensures.is), omega (arith, room))
 
 pub put_step-requires : goal.put_step-requires
-put_step-requires c = let more = c.excess-ahead in
+put_step-requires c = let more = c.saturating_sub-ahead in
     let held = c.get in
     let count = c.count_of-held in
     let entry = c.entry_of in
@@ -31,7 +31,7 @@ put_step-requires c = let more = c.excess-ahead in
     first.new.out step.ensures first.auto.out
 
 pub returns : goal.returns
-returns c t indexed below = let more = c.excess-ahead in
+returns c t indexed below = let more = c.saturating_sub-ahead in
     let held = c.get in
     let count = c.count_of-held in
     let entry = c.entry_of in

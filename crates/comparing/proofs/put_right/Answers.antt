@@ -4,13 +4,13 @@ use Rattle.comparing.proofs.Step.{of_table, right-room, right-put}
 use Rattle.comparing.proofs.put_right.Goals as goal
 
 pub put_row-requires-clause-q_lt_n : goal.put_row-requires-clause-q_lt_n
-put_row-requires-clause-q_lt_n c = let more = c.excess-ahead in
+put_row-requires-clause-q_lt_n c = let more = c.saturating_sub-ahead in
     let held = c.get in
     let entry = c.entry_of-f in
     let count = c.count_of in (c.requires.right, c.requires.tag, omega (arith, right-room c.requires entry.result count.result held.result entry.ensures count.ensures.0 held.ensures.is more.result more.ensures))
 
 pub returns : goal.returns
-returns c t indexed below = let more = c.excess-ahead in
+returns c t indexed below = let more = c.saturating_sub-ahead in
     let held = c.get in
     let count = c.count_of in
     let entry = c.entry_of-f in

@@ -11,8 +11,8 @@ pub begin-requires : goal.begin-requires
 begin-requires c = let a = c.args in
     slots a.g _ _ _ _ _ _ c.requires
 
-pub pair_row-len-requires-clause-composable : goal.pair_row-len-requires-clause-composable
-pair_row-len-requires-clause-composable c = let a = c.args in
+pub row-len-requires-clause-composable : goal.row-len-requires-clause-composable
+row-len-requires-clause-composable c = let a = c.args in
     let u = c.begin.ensures in
     let start = composable_kept a.g _ _ _ _ _ _ c.requires _ (spare_inside a.g _ _ _ _ _ _ c.requires _ u.kept) in
     let inv = c.loop-i.invariant in
@@ -25,7 +25,7 @@ loop-i-preserved c = let a = c.args in
     let start = composable_kept a.g _ _ _ _ _ _ c.requires _ (spare_inside a.g _ _ _ _ _ _ c.requires _ u.kept) in
     let inv = c.loop-i.invariant in
     searching-next a.g _ _ _ _ _ _ _ _ _ _ (omega arith) c.member-s.ensures.0 inv
-    (rw (first-same a.g _ _ _ _ _ _ start _ inv.kept, second_same a.g _ _ _ _ _ _ start _ inv.kept) at c.pair_row-len.ensures)
+    (rw (first-same a.g _ _ _ _ _ _ start _ inv.kept, second_same a.g _ _ _ _ _ _ start _ inv.kept) at c.row-len.ensures)
 
 pub returns : goal.returns
 returns c = let a = c.args in

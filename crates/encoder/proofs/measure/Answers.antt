@@ -8,11 +8,10 @@ use Rattle.encoder.proofs.measure.Goals as goal
 use Rattle.encoder.proofs.measure.Goals.{Start}
 
 abbrev rows : Start → ℕ → Row
-rows c q = row_in c.args.g c.args.work.now (c.args.base + q)
+rows c q = row_in c.args.part.grid c.args.work.now (c.args.part.base + q)
 
 pub loop-q-preserved : goal.loop-q-preserved
 loop-q-preserved c = let l = c.loop-q in (
-  omega arith,
   omega (arith, c.measure_row-total.ensures.low),
-  parts_measured row_bytes (rows (goal.at.loop-q-preserved c).Start) l.q l.total c.measure_row-total.result l.invariant.2 c.measure_row-total.ensures.is,
+  parts_measured row_bytes (rows (goal.at.loop-q-preserved c).Start) l.q l.total c.measure_row-total.result l.invariant.1 c.measure_row-total.ensures.is,
 )

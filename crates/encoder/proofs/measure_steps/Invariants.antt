@@ -1,4 +1,4 @@
-use Prim.Native.Nat.{◌*◌, ◌-◌, ◌≤◌}
+use Prim.Native.Nat.{◌*◌, ◌≤◌}
 use mathlib.Core.Path.{◌≡◌}
 use lib.ListN.{length}
 use Rattle.tables.specs.Bytes.{step_bytes}
@@ -7,7 +7,4 @@ use Rattle.encoder.proofs.Encoding.{first_parts}
 use Rattle.encoder.proofs.measure_steps.Given as goal
 
 abbrev pub invariant-loop-a : goal.invariant-loop-a
-invariant-loop-a l = (l.a ≤ l.tags) × (l.total ≤ 131073 * l.a) × (l.total ≡ length (first_parts step_bytes (step_in l.g l.work l.r) l.a))
-
-abbrev pub decreases-loop-a : goal.decreases-loop-a
-decreases-loop-a l = l.tags - l.a
+invariant-loop-a l = (l.total ≤ 131073 * l.a) × (l.total ≡ length (first_parts step_bytes (step_in l.g l.work l.r) l.a))

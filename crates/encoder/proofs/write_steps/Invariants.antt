@@ -1,4 +1,3 @@
-use Prim.Native.Nat.{◌-◌, ◌≤◌}
 use mathlib.Core.Path.{◌≡◌}
 use lib.ListN.{length}
 use Rattle.tables.specs.Bytes.{step_bytes}
@@ -7,7 +6,4 @@ use Rattle.encoder.proofs.Encoding.{first_parts}
 use Rattle.encoder.proofs.write_steps.Given as goal
 
 abbrev pub invariant-loop-a : goal.invariant-loop-a
-invariant-loop-a l = (l.a ≤ l.tags) × (length l.out ≡ length l.initial.out) × BytesWritten l.initial.out l.out l.from (first_parts step_bytes (step_in l.g l.work l.r) l.a) l.to
-
-abbrev pub decreases-loop-a : goal.decreases-loop-a
-decreases-loop-a l = l.tags - l.a
+invariant-loop-a l = (length l.out ≡ length l.initial.out) × BytesWritten l.initial.out l.out l.from (first_parts step_bytes (step_in l.g l.work l.r) l.a) l.to

@@ -18,7 +18,6 @@ count c n e = e ∙ sym (word-length c.args.g c.args.work.now c.args.r c.args.c 
 
 pub loop-i-init : goal.loop-i-init
 loop-i-init c = (
-  omega arith,
   refl,
   omega arith,
   omega (arith, tagged-length c.args.command (w (goal.at.loop-i-init c).Start), count (goal.at.loop-i-init c).Start c.get-n.result c.get-n.ensures.is, c.requires.s_in_bounds),
@@ -32,15 +31,14 @@ byte-requires c = let l = c.loop-i in
 pub loop-i-preserved : goal.loop-i-preserved
 loop-i-preserved c = let l = c.loop-i in
     let got = tag_got c.args.g c.args.work.now c.args.r c.args.c c.args.s l.i c.get-tag.result c.requires.bytes (omega (arith, c.get-n.ensures.is)) c.get-tag.ensures in (
-      omega arith,
       simp length-set (omega arith),
       omega arith,
-      l.invariant.3,
+      l.invariant.2,
       tagged-next c.args.out.now l.out c.args.from l.to c.args.command (w (goal.at.loop-i-preserved c).Start) l.i c.byte.result
-          (omega (arith, count (goal.at.loop-i-preserved c).Start c.get-n.result c.get-n.ensures.is)) (c.byte.ensures ∙ got.0) l.invariant.4,
+          (omega (arith, count (goal.at.loop-i-preserved c).Start c.get-n.result c.get-n.ensures.is)) (c.byte.ensures ∙ got.0) l.invariant.3,
     )
 
 pub returns : goal.returns
 returns c = let l = c.loop-i in
     tagged-all c.args.out.now l.out c.args.from l.to c.args.command (w (goal.at.returns c).Start) l.i
-    (omega (arith, count (goal.at.returns c).Start c.get-n.result c.get-n.ensures.is)) l.invariant.4
+    (omega (arith, count (goal.at.returns c).Start c.get-n.result c.get-n.ensures.is)) l.invariant.3

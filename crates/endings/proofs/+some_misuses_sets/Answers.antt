@@ -4,7 +4,7 @@ use mathlib.Core.List.{[]}
 use mathlib.Core.Path.{ap, ◌∙◌}
 use lib.ListN.{get_or}
 use Rattle.cascades.specs.Ending.{misused}
-use Rattle.books.specs.Arrays.{holding, rule_at}
+use Rattle.books.specs.Arrays.{arrays, rule_at}
 use Rattle.endings.proofs.Ending.{rule-inside, some-before, some-last}
 use Rattle.endings.proofs.+some_misuses_sets.Goals as goal
 
@@ -12,14 +12,14 @@ pub returns-then-some_misuses_sets : goal.returns-then-some_misuses_sets
 returns-then-some_misuses_sets t c =
     let a = c.args in
     let b = c.some_misuses_sets in
-    some-before a.end (holding a.rows.now a.lengths.now a.heads.now a.sets.now) a.m (a.m - 1) (omega arith) b.result b.ensures c.if-some_misuses_sets.true
+    some-before a.end (arrays a.rules.now a.sets.now) a.m (a.m - 1) (omega arith) b.result b.ensures c.if-some_misuses_sets.true
 
 pub misuses-requires : goal.misuses-requires
 misuses-requires t c =
     let a = c.args in
     let u = c.requires.0 in
     let r = c.rule_at-rule in (
-      rule-inside (holding a.rows.now a.lengths.now a.heads.now a.sets.now) (a.m - 1) r.result _ r.ensures.0 r.ensures.1 u.shaped (omega (arith, u.few)) (u.inside (a.m - 1) (omega arith)),
+      rule-inside (arrays a.rules.now a.sets.now) (a.m - 1) r.result _ r.ensures.0 r.ensures.1 u.shaped (omega (arith, u.few)) (u.inside (a.m - 1) (omega arith)),
       r.ensures.1.length_short,
       r.ensures.1.row_long,
     )
@@ -27,7 +27,7 @@ misuses-requires t c =
 pub returns : goal.returns
 returns t c =
     let a = c.args in
-    let rules = holding a.rows.now a.lengths.now a.heads.now a.sets.now in
+    let rules = arrays a.rules.now a.sets.now in
     let r = c.rule_at-rule in
     let b = c.some_misuses_sets in
     let i = a.m - 1 in

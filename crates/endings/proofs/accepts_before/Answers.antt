@@ -17,20 +17,18 @@ returns-then-accepts c =
     let l = c.loop-i in
     let a = c.args in
     let ss = take a.n a.sets.now in
-    before-hit a.end (pattern (goal.at.returns-then-accepts c).Start) l.i l.invariant.1 (omega (arith, places-length a.u.now ss))
+    before-hit a.end (pattern (goal.at.returns-then-accepts c).Start) l.i l.invariant (omega (arith, places-length a.u.now ss))
     (sym (c.accepts.ensures ∙ place-accepts a.u.now ss l.i a.end (omega arith) c.set_at-set.result c.set_at-set.ensures) ∙ c.if-accepts.true)
 
 pub loop-i-preserved : goal.loop-i-preserved
 loop-i-preserved c =
     let l = c.loop-i in
     let a = c.args in
-    let ss = take a.n a.sets.now in (
-      omega arith,
-      before-miss a.end (pattern (goal.at.loop-i-preserved c).Start) l.i l.invariant.1 (omega (arith, places-length a.u.now ss))
-          (sym (c.accepts.ensures ∙ place-accepts a.u.now ss l.i a.end (omega arith) c.set_at-set.result c.set_at-set.ensures) ∙ c.if-accepts.false),
-    )
+    let ss = take a.n a.sets.now in
+    before-miss a.end (pattern (goal.at.loop-i-preserved c).Start) l.i l.invariant (omega (arith, places-length a.u.now ss))
+    (sym (c.accepts.ensures ∙ place-accepts a.u.now ss l.i a.end (omega arith) c.set_at-set.result c.set_at-set.ensures) ∙ c.if-accepts.false)
 
 pub returns : goal.returns
 returns c =
     let l = c.loop-i in
-    before-end c.args.end (pattern (goal.at.returns c).Start) l.i l.invariant.1 (omega (arith, places-length c.args.u.now (take c.args.n c.args.sets.now)))
+    before-end c.args.end (pattern (goal.at.returns c).Start) l.i l.invariant (omega (arith, places-length c.args.u.now (take c.args.n c.args.sets.now)))

@@ -1,4 +1,3 @@
-use Prim.Native.Nat.{◌-◌, ◌≤◌}
 use mathlib.Core.Path.{◌≡◌}
 use lib.ListN.{take, drop}
 use Rattle.cascades.specs.Value.{places}
@@ -6,7 +5,4 @@ use Rattle.cascades.specs.Ending.{before}
 use Rattle.endings.proofs.accepts_before.Given as goal
 
 abbrev pub invariant-loop-i : goal.invariant-loop-i
-invariant-loop-i l = (l.i ≤ l.most) × (before l.end (drop l.i (places l.u (take l.n l.sets))) ≡ before l.end (places l.u (take l.n l.sets)))
-
-abbrev pub decreases-loop-i : goal.decreases-loop-i
-decreases-loop-i l = l.most - l.i
+invariant-loop-i l = before l.end (drop l.i (places l.u (take l.n l.sets))) ≡ before l.end (places l.u (take l.n l.sets))

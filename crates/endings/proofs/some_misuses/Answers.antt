@@ -4,7 +4,7 @@ use mathlib.Core.Path.{◌≡◌, refl, sym, ap, ◌∙◌}
 use lib.ListN.{length, get_or, get_or-eq_default}
 use Rattle.cascades.specs.Ending.{before, misused, some_misused}
 use Rattle.cascades.proofs.Pattern.{plain-pattern}
-use Rattle.books.specs.Arrays.{Arrays, holding, rule_at}
+use Rattle.books.specs.Arrays.{Arrays, arrays, rule_at}
 use Rattle.books.proofs.Some.{none_more, one_of}
 use Rattle.endings.proofs.some_misuses.Goals as goal
 use Rattle.endings.proofs.some_misuses.Goals.{After-misuses}
@@ -12,7 +12,7 @@ use Rattle.endings.proofs.some_misuses.Goals.{After-misuses}
 -- the rule that was read
 module _ (c : After-misuses) where
   abbrev rules : Arrays
-  rules = holding c.args.rows.now c.args.lengths.now c.args.heads.now c.args.sets.now
+  rules = arrays c.args.rules.now c.args.sets.now
 
   told : c.misuses.result ≡ misused c.args.end (rule_at rules c.loop-i.i)
   told =
@@ -31,4 +31,4 @@ pub loop-i-preserved : goal.loop-i-preserved
 loop-i-preserved c =
     let m = (goal.at.loop-i-preserved c).After-misuses in
     let l = c.loop-i in
-    (omega arith, none_more (misused c.args.end) (some_misused c.args.end) refl (λ q qs. refl) (rules m) l.i l.invariant.1 (sym (told m) ∙ c.if-misuses.false))
+    none_more (misused c.args.end) (some_misused c.args.end) refl (λ q qs. refl) (rules m) l.i l.invariant (sym (told m) ∙ c.if-misuses.false)

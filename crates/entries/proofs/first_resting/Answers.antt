@@ -1,43 +1,30 @@
-use Prim.Native.Nat.{ℕ, suc, ◌+◌, ◌*◌, ◌-◌}
-use native.Mathlib.Numerals.{add-one}
+use Prim.Native.Nat.{ℕ, ◌+◌, ◌*◌}
 use native.Mathlib.Omega.{arith}
-use mathlib.Core.Path.{◌≡◌, sym, ap, ◌∙◌, subst}
-use Rattle.words.specs.Decides.{Decides}
-use Rattle.steps.proofs.Places.{row_next}
+use mathlib.Core.Path.{◌≡◌, sym, ap, ◌∙◌}
 use Rattle.loaded.specs.Numbers.{first_resting}
-use Rattle.entries.specs.State.{RestsIn}
-use Rattle.entries.proofs.Resting.{decided_rests, resting-next, resting-here}
+use Rattle.steps.proofs.Places.{row_next}
+use Rattle.entries.proofs.Resting.{resting-next, resting-here, resting-none}
 use Rattle.entries.proofs.first_resting.Goals as goal
-
-pub returns-then-rests : goal.returns-then-rests
-returns-then-rests c = λ lim bs l e.
-    let a = c.args in
-    let lp = c.loop-q in
-    let r = c.rests in
-    let d = subst (λ (i : ℕ). Decides r.result (RestsIn a.index.now a.k i)) lp.invariant.1 r.ensures in
-    let rests-q = decided_rests bs a.index.now a.k l lp.q (omega (arith, e)) r.result d ∙ c.if-rests.true in
-    let left : a.s - lp.q ≡ suc (a.s - (lp.q + 1)) = omega arith in
-    let is = lp.invariant.2 lim bs l e ∙ ap (λ (n : ℕ). first_resting l.table n lp.q) left ∙ resting-here bs a.index.now a.k l (a.s - (lp.q + 1)) lp.q rests-q in
-    ap (λ (n : ℕ). n + 1) lp.invariant.1 ∙ ap (λ (n : ℕ). n * (a.k + 1) + 1) (sym is)
+use Rattle.entries.proofs.first_resting.Goals.{else-loop-q-test, then-loop-q-test+then-rests}
 
 pub loop-q-preserved : goal.loop-q-preserved
 loop-q-preserved c = let a = c.args in
-    let lp = c.loop-q in
+    let l = c.loop-q in
     let r = c.rests in (
-      omega arith,
-      omega (arith, row_next lp.q a.k, lp.invariant.1),
-      λ lim bs l e.
-          let d = subst (λ (i : ℕ). Decides r.result (RestsIn a.index.now a.k i)) lp.invariant.1 r.ensures in
-          let rests-q = decided_rests bs a.index.now a.k l lp.q (omega (arith, e)) r.result d ∙ c.if-rests.false in
-          let left : a.s - lp.q ≡ suc (a.s - (lp.q + 1)) = omega arith in
-          lp.invariant.2 lim bs l e ∙ ap (λ (n : ℕ). first_resting l.table n lp.q) left
-          ∙ resting-next bs a.index.now a.k l (a.s - (lp.q + 1)) lp.q rests-q ∙ ap (first_resting l.table (a.s - (lp.q + 1))) (sym (add-one lp.q)),
+      omega (arith, row_next l._q a.size.tags, l.invariant.0),
+      λ lim bs t e.
+          l.invariant.1 lim bs t e
+          ∙ resting-next bs a.index.now a.size.tags t a.size.states l._q l.cell r.result (omega arith) e l.invariant.0 r.ensures c.if-rests.false,
     )
 
 pub returns : goal.returns
-returns c = λ lim bs l e.
+returns c = λ lim bs t e.
     let a = c.args in
-    let lp = c.loop-q in
-    let none : a.s - lp.q ≡ 0 = omega arith in
-    let is = lp.invariant.2 lim bs l e ∙ ap (λ (n : ℕ). first_resting l.table n lp.q) none in
-    ap (λ (n : ℕ). n + 1) lp.invariant.1 ∙ ap (λ (n : ℕ). n * (a.k + 1) + 1) (sym is)
+    let l = c.loop-q in
+    let at : first_resting t.table a.size.states 0 ≡ l._q =
+    l.invariant.1 lim bs t e
+    ∙ elim c.loop-q-test.branch [
+      | else-loop-q-test w ↦ resting-none bs a.index.now a.size.tags t a.size.states l._q (omega arith)
+      | then-loop-q-test+then-rests w ↦ resting-here bs a.index.now a.size.tags t a.size.states l._q l.cell w.rests.result (omega arith) e l.invariant.0 w.rests.ensures w.if-rests.true
+    ] in
+    ap (λ (n : ℕ). n + 1) l.invariant.0 ∙ ap (λ (n : ℕ). n * (a.size.tags + 1) + 1) (sym at)

@@ -9,10 +9,10 @@ use Rattle.equivalence.proofs.follow.Goals.{Start}
 
 -- `equivalence::follow` meets its contract.
 -- the states are in their ranges
-left_at : (st : Start) → st.args.p < length (table_in st.args.lim st.args.table.now)
+left_at : (st : Start) → st.args.p < length (table_in st.args.both.lim st.args.both.table.now)
 left_at c = omega (arith, c.requires.p_value.0, left-low c.requires.tables.0 c.requires.searching.0 c.args.i c.requires.searching.1)
 
-right_at : (st : Start) → st.args.q < st.args.m
+right_at : (st : Start) → st.args.q < st.args.both.rows
 right_at c = omega (arith, c.requires.p_value.1, right-low c.requires.tables.0 c.requires.searching.0 c.args.i c.requires.searching.1)
 
 pub entry_of-e-requires : goal.entry_of-e-requires

@@ -6,54 +6,37 @@ use Rattle.transducers.specs.Table.{no_step}
 use Rattle.tables.specs.Bytes.{step_bytes}
 use Rattle.tables.specs.Decode.{read_step}
 use Rattle.steps.specs.Entry.{EntryOf, StepEntry}
-use Rattle.indexing.specs.Entries.{StepEntries}
-use Rattle.indexing.proofs.Progress.{progress_all, turn, stopped}
+use Rattle.indexing.proofs.Progress.{progress_all, progress_next, progress_not}
 use Rattle.steps.proofs.Places.{kept_at, kept_then}
 use Rattle.indexing.proofs.read_steps.Goals as goal
 
-pub returns-in_default-clause-read : goal.returns-in_default-clause-read
-returns-in_default-clause-read c = let a = c.args in
-    let k = a.k in
-    let bs = a.table.now in
-    let x = c.loop-a.index in
-    let y = c.read_step-got.new.index in stopped (read_step k a.s) step_bytes no_step bs a.at
-    (λ i v. StepEntry k bs x (a.first + i) v)
-    (λ v. StepEntry k bs y (a.first + c.loop-a.a) v)
-    c.loop-a.a
-    c.loop-a.to
-    c.read_step-got.result
-    c.loop-a.invariant.2
-    c.read_step-got.ensures.read
-    k
-    (StepEntries k bs y a.first)
-    c.in_default.is
-    (omega arith)
+pub returns-in_err-to-clause-read : goal.returns-in_err-to-clause-read
+returns-in_err-to-clause-read c = let a = c.args in
+    let k = a.size.tags in
+    let l = c.loop-a in
+    rw c.from_residual.ensures
+    (progress_not (read_step k a.size.states) step_bytes no_step a.table.now a.at
+    (λ i v. StepEntry k a.table.now l.index (a.first + i) v)
+    l.a l.to l.invariant.1 k (omega arith) c.in_err-to.ensures.read)
 
 pub loop-a-preserved : goal.loop-a-preserved
 loop-a-preserved c = let a = c.args in
-    let k = a.k in
+    let k = a.size.tags in
     let bs = a.table.now in
-    let x = c.loop-a.index in
-    let y = c.read_step-got.new.index in (
-      omega arith,
+    let l = c.loop-a in
+    let y = c.read_step.new.index in (
       search rules,
-      turn (read_step k a.s) step_bytes no_step bs a.at
-          (λ i v. StepEntry k bs x (a.first + i) v)
-          (λ v. StepEntry k bs y (a.first + c.loop-a.a) v)
-          c.loop-a.a
-          c.loop-a.to
-          c.read_step-got.result
-          c.loop-a.invariant.2
-          c.read_step-got.ensures.read
+      progress_next (read_step k a.size.states) step_bytes no_step bs a.at
+          (λ i v. StepEntry k bs l.index (a.first + i) v)
           (λ i v. StepEntry k bs y (a.first + i) v)
-          c.in-To.end
-          c.in-To.is
-          (λ i v h g. kept_at (λ e. EntryOf bs (v.next * (k + 1) + 1) v.output e) (a.first + c.loop-a.a) (a.first + i) x y c.read_step-got.ensures.kept (omega arith) g)
-          (λ v g. g),
-      kept_then a.first (a.first + c.loop-a.a) a.index.now x y (omega arith) c.loop-a.invariant.3 c.read_step-got.ensures.kept,
+          (λ v. StepEntry k bs y (a.first + l.a) v)
+          l.a l.to c.in_ok-to.to l.invariant.1 c.in_ok-to.ensures.read
+          (λ i v h g. kept_at (λ e. EntryOf bs (v.next * (k + 1) + 1) v.output e) (a.first + l.a) (a.first + i) l.index y c.read_step.ensures.kept (omega arith) g)
+          c.in_ok-to.ensures.read.holds,
+      kept_then a.first (a.first + l.a) a.index.now l.index y (omega arith) l.invariant.2 c.read_step.ensures.kept,
     )
 
 pub returns-clause-read : goal.returns-clause-read
 returns-clause-read c = let a = c.args in
-    let e : c.loop-a.a ≡ a.k = omega arith in
-    rw e at (progress_all (read_step a.k a.s) step_bytes no_step a.table.now a.at _ c.loop-a.a c.loop-a.to c.loop-a.invariant.2)
+    let e : c.loop-a.a ≡ a.size.tags = omega arith in
+    rw e at (progress_all (read_step a.size.tags a.size.states) step_bytes no_step a.table.now a.at _ c.loop-a.a c.loop-a.to c.loop-a.invariant.1)

@@ -1,4 +1,4 @@
-use Prim.Native.Nat.{◌+◌, ◌-◌, ◌≤◌}
+use Prim.Native.Nat.{◌+◌}
 use mathlib.Core.Path.{◌≡◌}
 use lib.ListN.{length}
 use Rattle.transducers.specs.Table.{no_step}
@@ -10,10 +10,6 @@ use Rattle.indexing.proofs.Progress.{Progress}
 use Rattle.indexing.proofs.read_steps.Given as goal
 
 abbrev pub invariant-loop-a : goal.invariant-loop-a
-invariant-loop-a l = (l.a ≤ l.k)
-    × (length l.index ≡ length l.initial.index)
-    × Progress (read_step l.k l.s) step_bytes no_step (λ i v. StepEntry l.k l.table l.index (l.first + i) v) l.table l.at l.a l.to
+invariant-loop-a l = (length l.index ≡ length l.initial.index)
+    × Progress (read_step l.size.tags l.size.states) step_bytes no_step (λ i v. StepEntry l.size.tags l.table l.index (l.first + i) v) l.table l.at l.a l.to
     × SameBelow l.first l.initial.index l.index
-
-abbrev pub decreases-loop-a : goal.decreases-loop-a
-decreases-loop-a l = l.k - l.a

@@ -1,10 +1,8 @@
 use Prim.Native.Nat.{ℕ, ◌+◌}
-use native.Mathlib.Nat.{zero-mul}
 use native.Mathlib.Omega.{arith}
-use mathlib.Core.Path.{sym, ap, ◌∙◌}
+use mathlib.Core.Path.{refl, sym, ap, ◌∙◌}
 use lib.ListN.{length}
 use Rattle.tables.specs.Bytes.{joined}
-use Rattle.steps.proofs.Places.{row_next}
 use Rattle.loaded.specs.Numbers.{row_at, row_behind}
 use Rattle.entries.proofs.Numbers.{rows-most}
 use Rattle.measuring.proofs.Total.{total-start, total-next, total-end}
@@ -12,25 +10,21 @@ use Rattle.measuring.proofs.measure.Goals as goal
 
 pub loop-q-init : goal.loop-q-init
 loop-q-init c = let a = c.args in (
-  omega arith,
-  omega (arith, zero-mul (a.k + 1)),
-  omega (arith, c.requires, rows-most c.args.s c.args.k c.requires.2 c.requires.1),
-  λ lim bs l e. ap (λ (n : ℕ). row_at a.k n + length (joined row_behind l.table)) (sym e) ∙ total-start bs a.index.now a.k l,
+  omega (arith, rows-most a.size.states a.size.tags c.requires.2 c.requires.1),
+  λ lim bs l e. ap (λ (n : ℕ). row_at a.size.tags n + length (joined row_behind l.table)) (sym e) ∙ total-start bs a.index.now a.size.tags l,
 )
 
 pub loop-q-preserved : goal.loop-q-preserved
 loop-q-preserved c = let a = c.args in
     let lp = c.loop-q in
     let m = c.measure_row-total in (
-      omega arith,
-      omega (arith, row_next lp.q a.k, lp.invariant.1),
-      omega (arith, lp.invariant.2, m.ensures.1),
+      omega (arith, lp.invariant.0, m.ensures.1),
       λ lim bs l e.
-          total-next bs a.index.now a.k l lp.total m.result lp.q (omega (arith, e)) (lp.invariant.3 lim bs l e) (m.ensures.0 lim bs l lp.q (omega (arith, e)) lp.invariant.1),
+          total-next bs a.index.now a.size.tags l lp.total m.result lp.q (omega (arith, e)) (lp.invariant.1 lim bs l e) (m.ensures.0 lim bs l lp.q (omega (arith, e)) refl),
     )
 
 pub returns : goal.returns
 returns c = λ lim bs l e.
     let a = c.args in
     let lp = c.loop-q in
-    total-end bs a.index.now a.k l lp.total lp.q (omega (arith, e)) (lp.invariant.3 lim bs l e)
+    total-end bs a.index.now a.size.tags l lp.total lp.q (omega (arith, e)) (lp.invariant.1 lim bs l e)

@@ -1,4 +1,4 @@
-use Prim.Native.Nat.{ℕ, ◌+◌, ◌*◌, ◌-◌, ◌≤◌, ◌<◌}
+use Prim.Native.Nat.{ℕ, ◌+◌, ◌*◌, ◌≤◌, ◌<◌}
 use mathlib.Core.Path.{◌≡◌}
 use mathlib.Core.List.{List}
 use lib.ListN.{length, drop}
@@ -9,10 +9,6 @@ use Rattle.loaded.specs.Numbers.{steps_behind, row_behind}
 use Rattle.measuring.proofs.measure_row.Given as goal
 
 abbrev pub invariant-loop-a : goal.invariant-loop-a
-invariant-loop-a l = (l.a ≤ l.k)
-    × (l.total ≤ 0x100 * (l.a + 1))
+invariant-loop-a l = (l.total ≤ 0x100 * (l.a + 1))
     × ((lim : Limits) (bs : List ℕ) (held : Loaded lim bs l.k l.index) (q : ℕ) → q < length held.table → l.cell ≡ q * (l.k + 1)
     → l.total + length (steps_behind (drop l.a (row held.table q).steps)) ≡ length (row_behind (row held.table q)))
-
-abbrev pub decreases-loop-a : goal.decreases-loop-a
-decreases-loop-a l = l.k - l.a

@@ -3,13 +3,13 @@ use native.Mathlib.Omega.{arith}
 use Rattle.merge.proofs.place.Goals as goal
 
 pub returns-then-c-q : goal.returns-then-c-q
-returns-then-c-q c = let a = c.args in place-own a.g a.work.now a.base a.n a.first a.q c.requires.q_lt_n c.requires.parted _ _ c.get-c.ensures.is c.if-c-q.true c.name_new.ensures
+returns-then-c-q c = let a = c.args in place-own a.part.grid a.work.now a.part.base a.part.states a.first a.q c.requires.q_lt_n c.requires.parted _ _ c.get-c.ensures.is c.if-c-q.true c.name_new.ensures
 
-pub returns-then-w : goal.returns-then-w
-returns-then-w c = let a = c.args in place-hit a.g a.work.now a.base a.n a.first a.q c.requires.q_lt_n c.requires.parted c.find_name-w.result c.find_name-w.ensures _ c.if-w.true c.put.ensures
+pub name_new-requires-in-Err-clause-ready : goal.name_new-requires-in-Err-clause-ready
+name_new-requires-in-Err-clause-ready c = let a = c.args in ready_link a.part.grid _ _ a.part.base a.part.states c.in-Err.last _ c.requires.parted.part.ready (omega (arith, c.in-Err.ensures.naming.below)) c.put-in-Err.ensures
 
-pub name_new-requires-2-clause-ready : goal.name_new-requires-2-clause-ready
-name_new-requires-2-clause-ready c = let a = c.args in ready_link a.g _ _ a.base a.n c.find_name-w.result.at _ c.requires.parted.part.ready (omega (arith, c.find_name-w.ensures.below)) c.put-2.ensures
+pub returns-in-Ok : goal.returns-in-Ok
+returns-in-Ok c = let a = c.args in place-hit a.part.grid a.work.now a.part.base a.part.states a.first a.q c.requires.q_lt_n c.requires.parted _ c.in-Ok.name c.in-Ok.ensures.0 c.in-Ok.ensures.1 c.put.ensures
 
-pub returns : goal.returns
-returns c = let a = c.args in place-miss a.g a.work.now a.base a.n a.first a.q c.requires.q_lt_n c.requires.parted c.find_name-w.result c.find_name-w.ensures _ _ c.if-w.false c.put-2.ensures c.name_new-2.ensures
+pub returns-in-Err : goal.returns-in-Err
+returns-in-Err c = let a = c.args in place-miss a.part.grid a.work.now a.part.base a.part.states a.first a.q c.requires.q_lt_n c.requires.parted _ _ c.in-Err.last c.in-Err.ensures c.put-in-Err.ensures c.name_new-in-Err.ensures

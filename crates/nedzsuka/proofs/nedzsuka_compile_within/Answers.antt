@@ -4,6 +4,6 @@ use Rattle.packing.specs.Packed.{Legible}
 use Rattle.nedzsuka.proofs.Legible.{legible_compile}
 use Rattle.nedzsuka.proofs.nedzsuka_compile_within.Goals as goal
 
-pub pack_compile-requires : goal.pack_compile-requires
-pack_compile-requires c = let a = c.args in
+pub pack_answer-requires : goal.pack_answer-requires
+pack_answer-requires c = let a = c.args in
     subst Legible (sym c.compile_ending-answer.ensures.answer) (legible_compile c.limits_of-lim.result a.book.now a.end a.ceiling (length a.work.now) (length a.out.now))

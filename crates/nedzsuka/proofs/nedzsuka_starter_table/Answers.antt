@@ -4,6 +4,6 @@ use Rattle.packing.specs.Packed.{Legible}
 use Rattle.nedzsuka.proofs.Legible.{legible_starter}
 use Rattle.nedzsuka.proofs.nedzsuka_starter_table.Goals as goal
 
-pub pack_compile-requires : goal.pack_compile-requires
-pack_compile-requires c = let out = c.args.out.now in
+pub pack_answer-requires : goal.pack_answer-requires
+pack_answer-requires c = let out = c.args.out.now in
     subst Legible (sym c.write_table-answer.ensures.answer) (legible_starter (length out))

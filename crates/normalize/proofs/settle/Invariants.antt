@@ -1,12 +1,9 @@
-use Rattle.normalize.proofs.Lower.{weight, flag}
-use Rattle.normalize.specs.Fronts.{Rests, Lowered}
-use mathlib.Core.Path.{◌≡◌}
-use mathlib.Core.Bool.{false}
-use Prim.Native.Nat.{ℕ, ◌+◌, ◌<◌}
+use Rattle.normalize.proofs.Lower.{weight}
+use Rattle.normalize.specs.Fronts.{Lowered}
 use Rattle.normalize.proofs.settle.Given as goal
 
-abbrev pub invariant-loop-going : goal.invariant-loop-going
-invariant-loop-going l = Lowered l.g l.initial.work l.work l.base l.n × (l.going ≡ false → (q : ℕ) → q < l.n → (a : ℕ) → a < l.g.tags → Rests l.g l.work l.base l.n q a)
+abbrev pub invariant-loop-part : goal.invariant-loop-part
+invariant-loop-part l = Lowered l.part.grid l.initial.work l.work l.part.base l.part.states
 
-abbrev pub decreases-loop-going : goal.decreases-loop-going
-decreases-loop-going l = weight l.g l.base l.n l.work + flag l.g l.base l.n l.going
+abbrev pub decreases-loop-part : goal.decreases-loop-part
+decreases-loop-part l = weight l.part.grid l.part.base l.part.states l.work

@@ -3,4 +3,4 @@ use native.Mathlib.Omega.{arith}
 use Rattle.normalize.proofs.start_fronts.Goals as goal
 
 pub loop-q-preserved : goal.loop-q-preserved
-loop-q-preserved c = let a = c.args in (omega arith, starting_next a.g a.work.now a.base a.n c.requires _ _ _ _ (omega arith) c.loop-q.invariant.1 c.get-long.ensures c.put.ensures)
+loop-q-preserved c = let a = c.args in starting_next a.part.grid a.work.now a.part.base a.part.states c.requires _ _ _ _ (omega arith) c.loop-q.invariant c.get-long.ensures c.put.ensures

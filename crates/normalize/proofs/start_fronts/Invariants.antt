@@ -1,9 +1,5 @@
 use Rattle.normalize.proofs.Lower.{Starting}
-use Prim.Native.Nat.{◌-◌, ◌≤◌}
 use Rattle.normalize.proofs.start_fronts.Given as goal
 
 abbrev pub invariant-loop-q : goal.invariant-loop-q
-invariant-loop-q l = (l.q ≤ l.n) × Starting l.g l.initial.work l.work l.base l.n l.q
-
-abbrev pub decreases-loop-q : goal.decreases-loop-q
-decreases-loop-q l = l.n - l.q
+invariant-loop-q l = Starting l.fn.part.grid l.initial.work l.work l.fn.part.base l.fn.part.states l.q

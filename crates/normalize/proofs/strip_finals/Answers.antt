@@ -3,4 +3,4 @@ use native.Mathlib.Omega.{arith}
 use Rattle.normalize.proofs.strip_finals.Goals as goal
 
 pub loop-q-preserved : goal.loop-q-preserved
-loop-q-preserved c = let a = c.args in (omega arith, finals-next a.g a.work.now a.base a.n c.requires.by_index _ c.loop-q.q (omega arith) c.loop-q.invariant.1 _ _ c.get-own.ensures c.drop_front.ensures)
+loop-q-preserved c = let a = c.args in finals-next a.part.grid a.work.now a.part.base a.part.states c.requires.by_index _ c.loop-q.q (omega arith) c.loop-q.invariant _ _ c.get-own.ensures c.drop_front.ensures

@@ -1,9 +1,5 @@
 use Rattle.normalize.specs.Strip.{FinalsStripped}
-use Prim.Native.Nat.{◌-◌, ◌≤◌}
 use Rattle.normalize.proofs.strip_finals.Given as goal
 
 abbrev pub invariant-loop-q : goal.invariant-loop-q
-invariant-loop-q l = (l.q ≤ l.n) × FinalsStripped l.g l.initial.work l.work l.base l.q
-
-abbrev pub decreases-loop-q : goal.decreases-loop-q
-decreases-loop-q l = l.n - l.q
+invariant-loop-q l = FinalsStripped l.fn.part.grid l.initial.work l.work l.fn.part.base l.q

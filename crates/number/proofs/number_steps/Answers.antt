@@ -4,8 +4,8 @@ use Rattle.number.proofs.number_steps.Goals as goal
 
 pub number_step-requires-clause-rowing : goal.number_step-requires-clause-rowing
 number_step-requires-clause-rowing c = let a = c.args in
-    rowing_kept a.g _ _ _ _ _ _ _ c.requires _ c.loop-a.invariant.1.kept
+    rowing_kept a.part.grid _ _ _ _ _ _ _ c.requires _ c.loop-a.invariant.kept
 
 pub loop-a-preserved : goal.loop-a-preserved
 loop-a-preserved c = let a = c.args in
-    (omega arith, steps_next a.g _ _ _ _ _ _ _ c.requires _ _ _ (omega arith) c.loop-a.invariant.1 c.number_step.ensures)
+    steps_next a.part.grid _ _ _ _ _ _ _ c.requires _ _ _ (omega arith) c.loop-a.invariant c.number_step.ensures

@@ -4,16 +4,16 @@ use Rattle.number.proofs.search.Goals as goal
 
 pub loop-i-init : goal.loop-i-init
 loop-i-init c = let a = c.args in
-    searching-start a.g _ _ _ c.requires.classed c.requires.worklist
+    searching-start a.part.grid _ _ _ c.requires.classed c.requires.worklist
 
 pub add_steps-len-requires-clause-classed : goal.add_steps-len-requires-clause-classed
 add_steps-len-requires-clause-classed c = let inv = c.loop-i.invariant in
-    classed-kept c.args.g _ _ _ _ c.requires.classed inv.kept
+    classed-kept c.args.part.grid _ _ _ _ c.requires.classed inv.kept
 
 pub loop-i-preserved : goal.loop-i-preserved
 loop-i-preserved c = let a = c.args in
-    searching-next a.g _ _ _ c.requires.classed _ _ _ _ _ _ (omega arith) c.member-q.ensures.0 c.loop-i.invariant c.add_steps-len.ensures
+    searching-next a.part.grid _ _ _ c.requires.classed _ _ _ _ _ _ (omega arith) c.member-q.ensures.0 c.loop-i.invariant c.add_steps-len.ensures
 
 pub returns : goal.returns
 returns c = let a = c.args in
-    searching-end a.g _ _ _ c.requires.classed _ _ _ (omega arith) c.loop-i.invariant
+    searching-end a.part.grid _ _ _ c.requires.classed _ _ _ (omega arith) c.loop-i.invariant

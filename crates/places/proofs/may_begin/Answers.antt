@@ -1,28 +1,9 @@
-use Prim.Native.Nat.{◌+◌, ◌-◌}
 use native.Mathlib.Omega.{arith}
-use mathlib.Core.Bool.{false≢true}
-use mathlib.Core.Path.{refl, sym, ◌∙◌}
-use lib.ListN.{length}
-use Rattle.places.proofs.Places.{may_more, two_other}
+use Rattle.places.proofs.Places.{may_more}
 use Rattle.places.proofs.may_begin.Goals as goal
-use Rattle.places.proofs.may_begin.Goals.{then-same-eq2, else-same-eq2}
 
 pub loop-j-preserved : goal.loop-j-preserved
-loop-j-preserved c =
+loop-j-preserved g c =
     let a = c.args in
     let l = c.loop-j in
-    let w = length a.u.now - 1 in
-    let i = a.from + l.j in
-    let p = c.same in
-    let q = c.same-in-loop-j in (
-      omega arith,
-      elim c.if-same-eq2.branch [
-        | then-same-eq2 m ↦ λ e. absurd (false≢true (sym e ∙ m.may-is))
-        | else-same-eq2 m ↦ λ e.
-            may_more a.u.now a.s.now a.from l.j (l.invariant.1 (sym m.may-is ∙ e))
-            (two_other a.u.now a.s.now i i (i + w) 0 w p.result q.result
-            (record { place = omega arith; inside = omega arith; told = p.ensures.1 })
-            (record { place = refl; inside = omega arith; told = q.ensures.1 })
-            m.if-same-eq2.false)
-      ],
-    )
+    may_more a.u.now a.s.now a.from l.j _ _ (omega arith) (omega (arith, c.min-v.ensures)) _ l.may l.invariant

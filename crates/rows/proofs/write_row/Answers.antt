@@ -17,11 +17,11 @@ returns c = λ x.
     let at = c.place_of.ensures in
     let at2 = c.place_of-2.ensures in
     let e = c.word_number in
-    let word = e.ensures x.row.final (sym n) (subst (λ (i : ℕ). TagsAt y.table.now i x.row.final) (sym at) x.final.stands) in
+    let word = e.ensures x.row.final (sym n) (subst (λ (i : ℕ). TagsAt y.from.now.table.now i x.row.final) (sym at) x.final.stands) in
     let t = c.put_tags in
-    let tags = t.ensures x.row.final (sym n) (subst (λ (i : ℕ). TagsAt y.table.now i x.row.final) (sym at2) x.final.stands) in
+    let tags = t.ensures x.row.final (sym n) (subst (λ (i : ℕ). TagsAt y.from.now.table.now i x.row.final) (sym at2) x.final.stands) in
     let long : length t.new.loaded ≡ length y.loaded.now = t.auto.loaded ∙ (simp length-set) in
     let w = c.write_steps in
-    let wrote = w.ensures (row-steps y.table.now y.index.now y.k y.cell y.place (length y.loaded.now) x b.result (length t.new.loaded) m long) in
-    row_written y.table.now y.index.now y.k y.cell y.place (length y.loaded.now) x y.rested b.result e.result y.p w.result y.loaded.now w.new.loaded m word (omega (arith, c.requires.1))
-    (subst (λ (l : List ℕ). StepsWritten x.row.steps y.k y.rested (y.place + b.result) l w.new.loaded (y.p + 2) w.result) tags wrote)
+    let wrote = w.ensures (row-steps y.from.now.table.now y.from.now.index.now y.from.now.size.tags y.cell y.place (length y.loaded.now) x b.result (length t.new.loaded) m long) in
+    row_written y.from.now.table.now y.from.now.index.now y.from.now.size.tags y.cell y.place (length y.loaded.now) x y.from.now.rested b.result e.result y.p w.result y.loaded.now w.new.loaded m word (omega (arith, c.requires.1))
+    (subst (λ (l : List ℕ). StepsWritten x.row.steps y.from.now.size.tags y.from.now.rested (y.place + b.result) l w.new.loaded (y.p + 2) w.result) tags wrote)

@@ -13,12 +13,12 @@ then n = omega arith
 
 pub returns-then-table-at-lt3-clause-read : goal.returns-then-table-at-lt3-clause-read
 returns-then-table-at-lt3-clause-read c = let a = c.args in
-    step-short a.k a.s a.table.now a.at (omega arith)
+    step-short a.size.tags a.size.states a.table.now a.at (omega arith)
 
 pub returns-clause-read : goal.returns-clause-read
 returns-clause-read c = let a = c.args in
-    let w = word 0x34 a.k (drop (a.at + 3) a.table.now) in
-    step_part a.k a.s a.table.now a.at (omega arith) a.index.now a.cell
+    let w = word 0x34 a.size.tags (drop (a.at + 3) a.table.now) in
+    step_part a.size.tags a.size.states a.table.now a.at (omega arith) a.index.now a.cell
     c.word_end-end.result
     c.number_at-next.result
     c.base_at.result
@@ -29,5 +29,5 @@ returns-clause-read c = let a = c.args in
     (search rules)
     (search rules)
     (search rules)
-    (c.word_entry.ensures w (search rules) (word_stands 0x34 a.k a.table.now (a.at + 3) (omega arith)))
+    (c.word_entry.ensures w (search rules) (word_stands 0x34 a.size.tags a.table.now (a.at + 3) (omega arith)))
     (search rules)

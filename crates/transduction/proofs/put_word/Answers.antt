@@ -5,9 +5,8 @@ use Rattle.transduction.proofs.put_word.Goals as goal
 
 pub loop-j-preserved : goal.loop-j-preserved
 loop-j-preserved c = let a = c.args in (
-  omega arith,
   simp length-set (omega arith),
   λ w h st.
       put_next a.table.now a.out.now c.loop-j.out w a.place a.at c.loop-j.j st (omega arith) (omega arith)
-      (c.loop-j.invariant.2 w h st),
+      (c.loop-j.invariant.1 w h st),
 )

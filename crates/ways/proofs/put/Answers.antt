@@ -4,4 +4,4 @@ use Rattle.ways.proofs.put.Goals as goal
 
 pub returns : goal.returns
 returns c = let a = c.args in
-    put-short a.ns.now a.e a.buf.now a.at a.n c.requires.0 (omega arith) c.requires.1
+    rw (c.then_some.ensures) (put-short a.ns.now a.e a.buf.now a.at a.n c.requires.0 (omega arith) c.requires.1)

@@ -1,10 +1,6 @@
 use Rattle.workspace.specs.Cells.{word}
 use Rattle.workspace.proofs.Appending.{Appending}
-use Prim.Native.Nat.{◌-◌}
 use Rattle.workspace.proofs.append.Given as goal
 
 abbrev pub invariant-loop-i : goal.invariant-loop-i
 invariant-loop-i l = Appending l.g l.initial.work l.work (word l.g l.initial.work l.r l.c l.s) l.from l.to l.r2 l.c2 l.s2 l.i
-
-abbrev pub decreases-loop-i : goal.decreases-loop-i
-decreases-loop-i l = l.to - l.i

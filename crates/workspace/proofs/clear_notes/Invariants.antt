@@ -1,9 +1,5 @@
-use Prim.Native.Nat.{◌-◌, ◌≤◌}
 use Rattle.workspace.specs.Cells.{Sized, Cleared}
 use Rattle.workspace.proofs.clear_notes.Given as goal
 
 abbrev pub invariant-loop-q : goal.invariant-loop-q
-invariant-loop-q l = (l.q ≤ l.n) × Sized l.g l.work × Cleared l.g l.initial.work l.work l.base l.n l.e l.q
-
-abbrev pub decreases-loop-q : goal.decreases-loop-q
-decreases-loop-q l = l.n - l.q
+invariant-loop-q l = Sized l.g l.work × Cleared l.g l.initial.work l.work l.base l.n l.e l.q

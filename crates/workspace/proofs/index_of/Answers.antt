@@ -16,6 +16,10 @@ overflow_add-result-3 c = let a = c.args in
     let h = c.requires.fact in
     omega (arith, c.requires.depth_bound, ix-below a.g a.r a.c a.e h, ix_parts a.g a.r a.c a.e h)
 
-pub returns : goal.returns
+pub returns-clause-value : goal.returns-clause-value
 unfolding ix
-returns c = search rules
+returns-clause-value c = search rules
+
+pub returns-clause-below : goal.returns-clause-below
+unfolding ix
+returns-clause-below c = let a = c.args in ix-below a.g a.r a.c a.e c.requires.fact

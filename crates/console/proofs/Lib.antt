@@ -1,2 +1,0 @@
--- Laws of operands.
-pub mod Operand

@@ -1,2 +1,0 @@
--- What an operand reads as.
-pub mod Operand
