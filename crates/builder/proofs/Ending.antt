@@ -16,7 +16,7 @@ use Rattle.workspace.specs.Holds.{Ready, table_at}
 use Rattle.workspace.proofs.Views.{final_is, final-size, final-inner, output_is, output-inner, in_table}
 use Rattle.encoder.specs.Encoding.{BytesWritten, rows_in, Writable}
 use Rattle.words.specs.Word.{Below}
-use Rattle.answers.specs.Answer.{refusal, outcome_of}
+use Rattle.answers.specs.Answer.{refusal, outcome_of, Filled}
 use Rattle.cascades.specs.Rule.{Cascade}
 use Rattle.compilation.specs.Compile.{compile_cascade}
 use Rattle.answers.specs.declared.Refusal.{Refusal}
@@ -24,7 +24,6 @@ use Rattle.answers.specs.declared.Refusal.TheVariants.{AtByte, AtRule, Bare}
 use Rattle.transducers.specs.Table as tables
 use Rattle.tables.specs.Bytes.{encode}
 use Rattle.builder.specs.Rows.{TableInRows, BuiltRows}
-use Rattle.builder.specs.Rules.{Gave}
 use Rattle.std.specs.Prelude.{Result, Ok, Err}
 
 -- the rows as the encoder reads them are the table that they hold
@@ -63,10 +62,10 @@ module _ (g : Grid) (W : List ℕ) (n : ℕ) (ok : Ready g W 0 n) (tags : g.tags
 
 -- 11, or the bytes at the front of the output slice
 pub too_short : (bytes out : List ℕ) → length out < length bytes → (r : Result ℕ Refusal) → outcome_of r ≡ refused 11 nothing
-    → Gave (fitting (length out) bytes) out out r
+    → Filled (fitting (length out) bytes) out out r
 too_short bytes out h r e = record { answered = cc (e, lt-leb (length bytes) (length out) h); wrote = cc (lt-leb (length bytes) (length out) h) }
 
-pub fits : (bytes out after : List ℕ) (end : ℕ) → length bytes ≤ length out → BytesWritten out after 0 bytes end → Gave (fitting (length out) bytes) out after (Ok end)
+pub fits : (bytes out after : List ℕ) (end : ℕ) → length bytes ≤ length out → BytesWritten out after 0 bytes end → Filled (fitting (length out) bytes) out after (Ok end)
 fits bytes out after end h w =
     record {
       answered = let e : end ≡ length bytes = omega (arith, w.end) in cc (e, le-leb (length bytes) (length out) h);
@@ -84,17 +83,17 @@ module _ (g : Grid) (W : List ℕ) (ceiling : ℕ) (c : Cascade) (b : Result ℕ
   not-built r e = subst (BuiltRows g W ceiling c) e ok
 
   pub gave_bytes : (n : ℕ) → b ≡ Ok n → (out after : List ℕ) (r : Result ℕ Refusal)
-      → Gave (fitting (length out) (encode g.tags (table_at g W 0 n))) out after r
-      → Gave (and_then (compile_cascade ceiling c) (λ t. fitting (length out) (encode g.tags t))) out after r
+      → Filled (fitting (length out) (encode g.tags (table_at g W 0 n))) out after r
+      → Filled (and_then (compile_cascade ceiling c) (λ t. fitting (length out) (encode g.tags t))) out after r
   gave_bytes n e out after r gave =
-      subst (λ (x : Outcome (List ℕ)). Gave x out after r)
+      subst (λ (x : Outcome (List ℕ)). Filled x out after r)
       (ap (λ (x : Outcome tables.Table). and_then x (λ t. fitting (length out) (encode g.tags t))) (sym (in_rows n e).is)) gave
 
   pub gave-refused : (r : Refusal) → b ≡ Err r → (out : List ℕ)
-      → Gave (and_then (compile_cascade ceiling c) (λ t. fitting (length out) (encode g.tags t))) out out (Err r)
+      → Filled (and_then (compile_cascade ceiling c) (λ t. fitting (length out) (encode g.tags t))) out out (Err r)
   gave-refused r e out = by r (not-built r e)
     where
-      by : (r : Refusal) → compile_cascade ceiling c ≡ refusal r → Gave (and_then (compile_cascade ceiling c) (λ t. fitting (length out) (encode g.tags t))) out out (Err r)
+      by : (r : Refusal) → compile_cascade ceiling c ≡ refusal r → Filled (and_then (compile_cascade ceiling c) (λ t. fitting (length out) (encode g.tags t))) out out (Err r)
       by (AtByte j p) e = record { answered = cc (e); wrote = cc (e) }
       by (AtRule j p) e = record { answered = cc (e); wrote = cc (e) }
       by (Bare j) e = record { answered = cc (e); wrote = cc (e) }

@@ -1,22 +1,13 @@
 -- Compiling the rules that the reader's arrays hold.
-use Rattle.std.specs.Prelude.{ℕ, ◌≤◌, ◌≡◌, false, List, Result}
+use Rattle.std.specs.Prelude.{ℕ, ◌≤◌, ◌≡◌, false, List}
 use Rattle.limits.specs.Limits.{most_states, InRange}
 use Rattle.limits.specs.Work.{rule_states, rule_holds, work_rows, work_depth}
 use Rattle.limits.specs.declared.Limits.{Limits}
-use Rattle.answers.specs.Outcome.{Outcome}
-use Rattle.answers.specs.Slice.{long_of, written}
-use Rattle.answers.specs.Answer.{outcome_of}
-use Rattle.answers.specs.declared.Refusal.{Refusal}
 use Rattle.cascades.specs.Rule.{ending, some_has_set}
 use Rattle.cascades.specs.Ending.{bad_end}
 use Rattle.books.specs.Arrays.{Arrays, rules_of, cascade_of, RulesHeld}
 use Rattle.workspace.specs.declared.Grid.{Grid}
 use Rattle.workspace.specs.Cells.{Sized}
-
--- the answer of a part of compiling, and the output slice at exit
-pub record Gave (o : Outcome (List ℕ)) (before after : List ℕ) (answer : Result ℕ Refusal) : Type 0 where
-  pub answered : outcome_of answer ≡ long_of o
-  pub wrote : after ≡ written o before
 
 -- what has been read: limits and a ceiling in their ranges, and valid rules in the arrays
 pub record Readable (lim : Limits) (k ceiling m : ℕ) (a : Arrays) : Type 0 where

@@ -3,6 +3,7 @@
 #![tactic(auto)]
 
 ghost use Rattle.std.specs.Prelude.{◌≤◌, ◌<◌, length};
+ghost use Rattle.answers.specs.Answer.{Filled};
 ghost use Rattle.answers.specs.Slice.{fitting};
 ghost use Rattle.tables.specs.Bytes.{encode};
 ghost use Rattle.compilation.specs.Compile.{built};
@@ -10,7 +11,7 @@ ghost use Rattle.cascades.specs.Rule.{ending};
 ghost use Rattle.books.specs.Arrays.{arrays, cascade_of};
 ghost use Rattle.workspace.specs.Cells.{Kept, InRows};
 ghost use Rattle.workspace.specs.Holds.{Ready, table_at};
-ghost use Rattle.builder.specs.Rules.{Gave, Compilable};
+ghost use Rattle.builder.specs.Rules.{Compilable};
 ghost use Rattle.builder.specs.Rows.{BuiltRows};
 
 use answers::{Reason, Refusal};
@@ -22,7 +23,7 @@ use workspace::{Grid, Part};
 fn finish(work: &[u16], g: Grid, n: usize, out: &mut [u8]) -> Result<usize, Refusal>
     requires ready { Ready g work.now 0 n }
     requires tags_bound { (g.tags < 0x100) × (g.depth ≤ 0x100) }
-    ensures { Gave (fitting (length out.old) (encode g.tags (table_at g work.now 0 n))) out.old out.new result }
+    ensures { Filled (fitting (length out.old) (encode g.tags (table_at g work.now 0 n))) out.old out.new result }
 {
     let part = Part {
         grid: g,
@@ -79,7 +80,7 @@ pub fn build(
     lim: Limits,
 ) -> Result<usize, Refusal>
     requires { Compilable lim g work.old ceiling states end m (arrays rules.now sets.now) }
-    ensures gave { Gave (built ceiling (length out.old) (ending end (cascade_of g.tags (arrays rules.now sets.now) m))) out.old out.new result }
+    ensures gave { Filled (built ceiling (length out.old) (ending end (cascade_of g.tags (arrays rules.now sets.now) m))) out.old out.new result }
     ensures kept { Kept g work.old work.new (InRows 0 g.rows) }
 {
     let n = build_rows(work, g, ceiling, end, m, rules, sets, states, lim)?;

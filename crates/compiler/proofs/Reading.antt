@@ -36,10 +36,10 @@ use Rattle.compilation.specs.Compile.{entries, roomed, tested, built, compile_an
 use Rattle.workspace.specs.declared.Grid.{Grid}
 use Rattle.workspace.specs.Cells.{ix, at, Kept, InRows}
 use Rattle.workspace.proofs.Places.{ix-below}
-use Rattle.answers.specs.Answer.{outcome_of, number_of}
+use Rattle.answers.specs.Answer.{outcome_of, number_of, Filled}
 use Rattle.compiler.specs.Answer.{worked}
 use Rattle.compiler.specs.Rows.{grid_of}
-use Rattle.builder.specs.Rules.{Gave, Readable, Compilable}
+use Rattle.builder.specs.Rules.{Readable, Compilable}
 use Rattle.compiler.specs.Ended.{Ended}
 
 -- ---- the numbers
@@ -160,7 +160,7 @@ module _ (lim : Limits) (k ceiling end m : ℕ) (a : Arrays) (s : ℕ) (is : s �
       refused-ended lim (roomed lim ceiling (length W) c) ceiling 9 nothing is r f W out
 
   pub ended : (l : ℕ) → l ≡ end → (W X Y out after : List ℕ) (r : Result ℕ Refusal) → all ≤ length W
-      → Gave (built ceiling (length out) (read_with g.tags l)) out after r
+      → Filled (built ceiling (length out) (read_with g.tags l)) out after r
       → Kept g W X (InRows 0 g.rows) → Y ≡ replicate all 0 ++ drop all X
       → Ended lim (roomed lim ceiling (length W) (read_with k end)) ceiling W Y out after r
   ended l f W X Y out after r h gave kept wiped =
@@ -169,12 +169,12 @@ module _ (lim : Limits) (k ceiling end m : ℕ) (a : Arrays) (s : ℕ) (is : s �
       let is : roomed lim ceiling (length W) c ≡ result c = cc (le-leb (entries lim ceiling c) (length W) enough) in
       let tags : g.tags ≡ k = ap (λ (h : Grid). h.tags) e in
       let deep : g.depth ≡ work_depth (rule_holds lim) m = ap (λ (h : Grid). h.depth) e in
-      let done : Gave (built ceiling (length out) c) out after r = subst (λ (d : Cascade). Gave (built ceiling (length out) d) out after r) (ap₂ read_with tags f) gave in
+      let done : Filled (built ceiling (length out) c) out after r = subst (λ (d : Cascade). Filled (built ceiling (length out) d) out after r) (ap₂ read_with tags f) gave in
       let zero-then : Y ≡ replicate (entries lim ceiling c) 0 ++ drop (entries lim ceiling c) W =
       wiped ∙ ap (λ (l : List ℕ). replicate all 0 ++ l) (beyond g W X (omega (arith, deep)) kept) ∙ ap (λ (n : ℕ). replicate n 0 ++ drop n W) all_are
       in
       record {
-        gave = subst (λ (o : Outcome Cascade). Gave (and_then o (built ceiling (length out))) out after r) (sym is) done;
+        gave = subst (λ (o : Outcome Cascade). Filled (and_then o (built ceiling (length out))) out after r) (sym is) done;
         worked_is = zero-then ∙ ap (λ (o : Outcome Cascade). worked lim ceiling o W) (sym is);
       }
 
