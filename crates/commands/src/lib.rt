@@ -116,6 +116,7 @@ pub fn open_rule(
     requires in_range { InRange lim }
     ensures resumes { Resumes lim s.now (read_commands lim s.now k m (arrays rules.old sets.now) at) (at + 1 + 1 + 1) (arrays rules.new sets.now) result }
     ensures opens { Opens k m (arrays rules.new sets.now) result }
+    ensures rows { rules.new.rows ≡ rules.old.rows }
 {
     if let Err(reason) = close(rules, sets, m) {
         return refused(reason, at);

@@ -10,7 +10,7 @@ use answers::Refusal;
 use books::Book;
 use limits::STANDARD;
 use printing::{HexBytes, Refused};
-use request::{Call, FIRST, Request, SECOND};
+use request::{Call, FIRST, Line, Request, SECOND};
 use std::io;
 use std::io::{Print, Read};
 use text::Fault;
@@ -82,7 +82,7 @@ fn answer<P: Print>(to: &P, request: Request) -> io::Result<()> {
     }
 }
 
-fn answer_request<P: Print>(to: &P, line: &[u8]) -> io::Result<()> {
+fn answer_request<P: Print>(to: &P, line: Line) -> io::Result<()> {
     let mut first = [0; FIRST];
     let mut second = [0; SECOND];
     match Request::read(line, &mut first, &mut second) {
@@ -91,11 +91,19 @@ fn answer_request<P: Print>(to: &P, line: &[u8]) -> io::Result<()> {
     }
 }
 
+// Only a line with a call needs the buffers, which take longer to clear than such a line to answer.
+fn answer_words<P: Print>(to: &P, line: &[u8]) -> io::Result<()> {
+    match Line::split(line) {
+        Ok(line) => answer_request(to, line),
+        Err(fault) => print!(to; " {fault}"),
+    }
+}
+
 fn answer_line<P: Print>(to: &P, line: &[u8]) -> io::Result<()> {
     to.write_all(line)?;
     if !matches!(line, [] | [b'#', ..]) {
         print!(to; " ->")?;
-        answer_request(to, line)?;
+        answer_words(to, line)?;
     }
     to.write_all(b"\n")
 }

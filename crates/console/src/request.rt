@@ -37,6 +37,27 @@ pub const FIRST: usize = 4096;
 
 pub const SECOND: usize = 70000;
 
+// A line's call, and the texts of its operands.
+#[derive(Clone, Copy)]
+pub struct Line<'a> {
+    call: Call,
+    left: &'a [u8],
+    right: &'a [u8],
+}
+
+impl<'a> Line<'a> {
+    pub fn split(line: &'a [u8]) -> Result<Self, Fault> {
+        let end = line
+            .iter()
+            .position(|byte| *byte == b' ')
+            .unwrap_or(line.len());
+        let (word, rest) = line.split_at(end);
+        let call = Call::try_from(word)?;
+        let (left, right) = split_operands(call, rest)?;
+        Ok(Line { call, left, right })
+    }
+}
+
 // Of `book` and `borders` the second operand is empty.
 #[derive(Clone, Copy)]
 pub struct Request<'a> {
@@ -50,17 +71,11 @@ pub struct Request<'a> {
 impl<'a> Request<'a> {
     // The line's request, its operands at the front of the two buffers, of which the second holds zeros.
     pub fn read(
-        line: &[u8],
+        line: Line,
         first: &'a mut [u8; FIRST],
         second: &'a mut [u8; SECOND],
     ) -> Result<Self, Fault> {
-        let end = line
-            .iter()
-            .position(|byte| *byte == b' ')
-            .unwrap_or(line.len());
-        let (word, rest) = line.split_at(end);
-        let call = Call::try_from(word)?;
-        let (left, right) = split_operands(call, rest)?;
+        let Line { call, left, right } = line;
         let first = text::hex_bytes(left, first)?;
         let second = read_second(call, right, second)?;
         Ok(Request {

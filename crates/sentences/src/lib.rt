@@ -47,12 +47,14 @@ pub fn admit(sentence: &[u8], k: u8, room: usize) -> Result<(), Refusal>
     Ok(())
 }
 
-// The sentence to the front of `out`.
+// The sentence to the front of `out`. A loop, since `copy_from_slice` is a call of memmove, and the library for C needs nothing but memset.
 pub fn copy(sentence: &[u8], out: &mut [u8])
     requires { length sentence.now ≤ length out.old }
     ensures { out.new ≡ sentence.now ++ drop (length sentence.now) out.old }
 {
-    out[..sentence.len()].copy_from_slice(sentence);
+    for (i, tag) in sentence.iter().enumerate() {
+        out[i] = *tag;
+    }
 }
 
 // The number of places from one place up to another, not far after it, at which two words differ. A sum of bytes can be taken of many

@@ -63,7 +63,7 @@ fn copy_rest(sentence: &[u8], from: usize, buf: &mut [u8], at: usize) -> bool
         return false;
     }
     let n = sentence.len();
-    buf[at..n].copy_from_slice(&sentence[from..]);
+    sentences::copy(&sentence[from..], &mut buf[at..n]);
     true
 }
 
