@@ -10,7 +10,7 @@ use answers::Refusal;
 use books::Book;
 use limits::STANDARD;
 use printing::{HexBytes, Refused};
-use request::{Call, FIRST, Line, Request, SECOND};
+use request::{Call, FIRST, Request, SECOND};
 use std::io;
 use std::io::{Print, Read};
 use text::Fault;
@@ -82,19 +82,35 @@ fn answer<P: Print>(to: &P, request: Request) -> io::Result<()> {
     }
 }
 
-fn answer_request<P: Print>(to: &P, line: Line) -> io::Result<()> {
+fn answer_operands<P: Print>(to: &P, call: Call, left: &[u8], right: &[u8]) -> io::Result<()> {
     let mut first = [0; FIRST];
     let mut second = [0; SECOND];
-    match Request::read(line, &mut first, &mut second) {
+    match Request::read(call, left, right, &mut first, &mut second) {
         Ok(request) => answer(to, request),
         Err(fault) => print!(to; " {fault}"),
     }
 }
 
-// Only a line with a call needs the buffers, which take longer to clear than such a line to answer.
+// The operands before and after the colon; of `book` and `borders`, which have none, all is the first. Called in two places, `answer_operands` stays a
+// call, and other lines are written without room for its buffers.
+fn answer_call<P: Print>(to: &P, call: Call, rest: &[u8]) -> io::Result<()> {
+    if matches!(call, Call::Book | Call::Borders) {
+        return answer_operands(to, call, rest, b"");
+    }
+    match rest.iter().position(|byte| *byte == b':') {
+        Some(colon) => answer_operands(to, call, &rest[..colon], &rest[colon + 1..]),
+        None => print!(to; " {}", Fault::Colon),
+    }
+}
+
 fn answer_words<P: Print>(to: &P, line: &[u8]) -> io::Result<()> {
-    match Line::split(line) {
-        Ok(line) => answer_request(to, line),
+    let end = line
+        .iter()
+        .position(|byte| *byte == b' ')
+        .unwrap_or(line.len());
+    let (word, rest) = line.split_at(end);
+    match Call::try_from(word) {
+        Ok(call) => answer_call(to, call, rest),
         Err(fault) => print!(to; " {fault}"),
     }
 }
@@ -102,7 +118,7 @@ fn answer_words<P: Print>(to: &P, line: &[u8]) -> io::Result<()> {
 fn answer_line<P: Print>(to: &P, line: &[u8]) -> io::Result<()> {
     to.write_all(line)?;
     if !matches!(line, [] | [b'#', ..]) {
-        print!(to; " ->")?;
+        to.write_all(b" ->")?;
         answer_words(to, line)?;
     }
     to.write_all(b"\n")

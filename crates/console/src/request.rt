@@ -37,27 +37,6 @@ pub const FIRST: usize = 4096;
 
 pub const SECOND: usize = 70000;
 
-// A line's call, and the texts of its operands.
-#[derive(Clone, Copy)]
-pub struct Line<'a> {
-    call: Call,
-    left: &'a [u8],
-    right: &'a [u8],
-}
-
-impl<'a> Line<'a> {
-    pub fn split(line: &'a [u8]) -> Result<Self, Fault> {
-        let end = line
-            .iter()
-            .position(|byte| *byte == b' ')
-            .unwrap_or(line.len());
-        let (word, rest) = line.split_at(end);
-        let call = Call::try_from(word)?;
-        let (left, right) = split_operands(call, rest)?;
-        Ok(Line { call, left, right })
-    }
-}
-
 // Of `book` and `borders` the second operand is empty.
 #[derive(Clone, Copy)]
 pub struct Request<'a> {
@@ -69,13 +48,14 @@ pub struct Request<'a> {
 }
 
 impl<'a> Request<'a> {
-    // The line's request, its operands at the front of the two buffers, of which the second holds zeros.
+    // The request, its operands at the front of the two buffers, of which the second holds zeros.
     pub fn read(
-        line: Line,
+        call: Call,
+        left: &[u8],
+        right: &[u8],
         first: &'a mut [u8; FIRST],
         second: &'a mut [u8; SECOND],
     ) -> Result<Self, Fault> {
-        let Line { call, left, right } = line;
         let first = text::hex_bytes(left, first)?;
         let second = read_second(call, right, second)?;
         Ok(Request {
@@ -83,20 +63,6 @@ impl<'a> Request<'a> {
             first,
             second,
         })
-    }
-}
-
-// What stands before and after the colon; of `book` and `borders`, which have none, all of it.
-fn split_operands(call: Call, rest: &[u8]) -> Result<(&[u8], &[u8]), Fault> {
-    match call {
-        Call::Book | Call::Borders => Ok((rest, b"")),
-        _ => {
-            let colon = rest
-                .iter()
-                .position(|byte| *byte == b':')
-                .ok_or(Fault::Colon)?;
-            Ok((&rest[..colon], &rest[colon + 1..]))
-        }
     }
 }
 

@@ -1,5 +1,5 @@
 -- The tests of 14, place by place and rule by rule.
-use Prim.Native.Nat.{ℕ, suc, ◌+◌, ◌-◌, ◌<◌, ◌≤◌}
+use Prim.Native.Nat.{ℕ, zero, suc, ◌+◌, ◌-◌, ◌<◌, ◌≤◌}
 use Rattle.std.specs.List.{list_any}
 use native.Mathlib.Omega.{arith}
 use native.Mathlib.Decide.{ℕ_discrete, dec_lt}
@@ -62,6 +62,19 @@ before-plain e (a ∷ []) = refl
 before-plain e (a ∷ b ∷ w) =
     let n : length (a ∷ b ∷ w) - 1 ≡ suc (length (b ∷ w) - 1) = omega arith in
     ap (λ (x : ℕ). list_any (λ y. eqb y e) (take x (a ∷ b ∷ w))) n ∙ ap (λ (x : Bool). eqb a e || x) (before-plain e (b ∷ w))
+
+-- a place of rows without sets
+plain_at : (w : List ℕ) (i : ℕ) → get_or (plain w) i (one 0) ≡ one (get_or w i 0)
+plain_at [] zero = refl
+plain_at [] (suc i) = refl
+plain_at (a ∷ w) zero = refl
+plain_at (a ∷ w) (suc i) = plain_at w i
+
+pub plain-hit : (w : List ℕ) (i e : ℕ) → get_or w i 0 ≡ e → accepts (get_or (plain w) i (one 0)) e ≡ true
+plain-hit w i e f = ap (λ (c : Class). accepts c e) (plain_at w i) ∙ eq-eqb (get_or w i 0) e f
+
+pub plain-miss : (w : List ℕ) (i e : ℕ) → (get_or w i 0 ≡ e → ⊥) → accepts (get_or (plain w) i (one 0)) e ≡ false
+plain-miss w i e d = ap (λ (c : Class). accepts c e) (plain_at w i) ∙ ne_eqb (get_or w i 0) e d
 
 module _ (w ss : List ℕ) (i e : ℕ) (h : i < length w) (set : ℕ) (is : set ≡ get_or ss i 0) where
   pub place-accepts : accepts (class_of (get_or w i 0) set) e ≡ accepts (get_or (places w ss) i (one 0)) e
